@@ -52,7 +52,7 @@ ghost use Rattle.fallible_itertools_adapters.specs.Intersperse.{intersperse_cont
 ghost use Rattle.fallible_itertools_adapters.specs.IntersperseWith as intersperse_with;
 ghost use Rattle.fallible_iterator.specs.Sources.FromFn.{call_of_none};
 ghost use Rattle.fallible_itertools_consumers.specs.Join.{JoinedAs};
-ghost use Rattle.fallible_itertools_adapters.specs.Merge.{merge_contract, merge_left, merge_left_ended, merge_left_held, merge_parts, merge_right, merge_right_ended, merge_right_held, merged_in_order};
+ghost use Rattle.fallible_itertools_adapters.specs.Merge.{merge_contract, merge_parts, merged_in_order};
 ghost use Rattle.fallible_itertools_adapters.specs.MergeBy as merge_by;
 ghost use Rattle.fallible_itertools_adapters.specs.MergeJoinBy as join_by;
 ghost use Rattle.fallible_itertools_consumers.specs.MinMax.{MinMaxDrains, minmaxed, or_less};
@@ -75,6 +75,7 @@ ghost use Rattle.fallible_itertools_consumers.specs.KSmallest.{IsSmallestOf, Sma
 ghost use Rattle.fallible_itertools_consumers.specs.Tail.{IsTailOf, TailRefuses};
 ghost use Rattle.fallible_itertools_consumers.specs.Sorted.{CollectsSorted, HasItems, IsSortedByCalls, IsSortedByComparisons, IsSortedByKeyOf, IsSortedByTest, IsSortedOf};
 ghost use Rattle.fallible_itertools_consumers.specs.SortedUnstable.{CollectsInPlace, HasItemsInOrder, HasItemsInOrderByCalls, HasItemsInOrderByComparisons, HasItemsInOrderByKey, HasItemsInOrderByTest};
+ghost use Rattle.fallible_itertools_adapters.specs.Sides as sides;
 ghost use Rattle.fallible_itertools_adapters.specs.StopAfter.{stop_after_contract, stop_after_items, stop_after_parts, stopped_after};
 ghost use Rattle.fallible_itertools_adapters.specs.Staging.{MayMeet};
 ghost use Rattle.fallible_itertools_adapters.specs.TakeWhileInclusive as inclusive;
@@ -1289,14 +1290,15 @@ pub trait FallibleItertools: FallibleIterator {
     where
         I: IntoFallibleIterator<Item = Self::Item, Error = Self::Error>,
         Self::Item: PartialOrd + Drop,
-        ensures left { merge_left result ≡ self }
-        ensures left_ended { merge_left_ended result ≡ false }
-        ensures left_held { merge_left_held result ≡ None }
-        ensures right { I.into_gives other (merge_right result) }
-        ensures right_ended { merge_right_ended result ≡ false }
-        ensures right_held { merge_right_held result ≡ None }
+        ensures left { sides.left_source (merge_parts result) ≡ self }
+        ensures left_ended { sides.left_ended (merge_parts result) ≡ false }
+        ensures left_held { sides.left_item (merge_parts result) ≡ None }
+        ensures right { I.into_gives other (sides.right_source (merge_parts result)) }
+        ensures right_ended { sides.right_ended (merge_parts result) ≡ false }
+        ensures right_held { sides.right_item (merge_parts result) ≡ None }
         ensures bounded { (a b k : ℕ) → Self.contract.bound self a
-            → I.IntoFallibleIter.contract.bound (merge_right result) b → a + b ≤ k
+            → I.IntoFallibleIter.contract.bound
+            (sides.right_source (merge_parts result)) b → a + b ≤ k
             → AtMost (seen_as merge_parts (merge_contract Self.Item.partial_cmp Self.contract
             I.IntoFallibleIter.contract)) result k }
         ensures lists { OverBoth Self.contract.steps self I.into_gives other
@@ -1331,18 +1333,19 @@ pub trait FallibleItertools: FallibleIterator {
         I: IntoFallibleIterator<Item = Self::Item, Error = Self::Error>,
         F: FnMut(&Self::Item, &Self::Item) -> Result<bool, Self::Error>,
         requires { (right : I.IntoFallibleIter) → I.into_gives other right
-            → IsCallable (merge_by.call_on_two (call_at_two F.FnMut))
+            → IsCallable (sides.call_on_two (call_at_two F.FnMut))
             (λ g z. takes_at_two F.FnMut g z.0 z.1) (λ z. Self.contract.may_give self z.0
             × I.IntoFallibleIter.contract.may_give right z.1) f }
-        ensures left { merge_by.merge_by_left result ≡ self }
-        ensures left_ended { merge_by.merge_by_left_ended result ≡ false }
-        ensures left_held { merge_by.merge_by_left_held result ≡ None }
-        ensures right { I.into_gives other (merge_by.merge_by_right result) }
-        ensures right_ended { merge_by.merge_by_right_ended result ≡ false }
-        ensures right_held { merge_by.merge_by_right_held result ≡ None }
-        ensures closure { merge_by.merge_by_closure result ≡ f }
+        ensures left { sides.left_source (merge_by.merge_by_parts result) ≡ self }
+        ensures left_ended { sides.left_ended (merge_by.merge_by_parts result) ≡ false }
+        ensures left_held { sides.left_item (merge_by.merge_by_parts result) ≡ None }
+        ensures right { I.into_gives other (sides.right_source (merge_by.merge_by_parts result)) }
+        ensures right_ended { sides.right_ended (merge_by.merge_by_parts result) ≡ false }
+        ensures right_held { sides.right_item (merge_by.merge_by_parts result) ≡ None }
+        ensures closure { sides.asked_closure (merge_by.merge_by_parts result) ≡ f }
         ensures bounded { (a b k : ℕ) → Self.contract.bound self a
-            → I.IntoFallibleIter.contract.bound (merge_by.merge_by_right result) b → a + b ≤ k
+            → I.IntoFallibleIter.contract.bound
+            (sides.right_source (merge_by.merge_by_parts result)) b → a + b ≤ k
             → AtMost (seen_as merge_by.merge_by_parts (merge_by.merge_by_contract Self.contract
             I.IntoFallibleIter.contract F.FnMut)) result k }
         ensures lists { (h : Self.Item → Self.Item → Result Bool Self.Error)
@@ -1383,18 +1386,20 @@ pub trait FallibleItertools: FallibleIterator {
         I: IntoFallibleIterator<Error = Self::Error>,
         F: FnMut(&Self::Item, &I::Item) -> Result<Ordering, Self::Error>,
         requires { (right : I.IntoFallibleIter) → I.into_gives other right
-            → IsCallable (merge_by.call_on_two (join_by.call_at_both F.FnMut))
+            → IsCallable (sides.call_on_two (join_by.call_at_both F.FnMut))
             (λ g z. join_by.takes_at_both F.FnMut g z.0 z.1) (λ z. Self.contract.may_give self z.0
             × I.IntoFallibleIter.contract.may_give right z.1) f }
-        ensures left { join_by.merge_join_by_left result ≡ self }
-        ensures left_ended { join_by.merge_join_by_left_ended result ≡ false }
-        ensures left_held { join_by.merge_join_by_left_held result ≡ None }
-        ensures right { I.into_gives other (join_by.merge_join_by_right result) }
-        ensures right_ended { join_by.merge_join_by_right_ended result ≡ false }
-        ensures right_held { join_by.merge_join_by_right_held result ≡ None }
-        ensures closure { join_by.merge_join_by_closure result ≡ f }
+        ensures left { sides.left_source (join_by.merge_join_by_parts result) ≡ self }
+        ensures left_ended { sides.left_ended (join_by.merge_join_by_parts result) ≡ false }
+        ensures left_held { sides.left_item (join_by.merge_join_by_parts result) ≡ None }
+        ensures right { I.into_gives other
+            (sides.right_source (join_by.merge_join_by_parts result)) }
+        ensures right_ended { sides.right_ended (join_by.merge_join_by_parts result) ≡ false }
+        ensures right_held { sides.right_item (join_by.merge_join_by_parts result) ≡ None }
+        ensures closure { sides.asked_closure (join_by.merge_join_by_parts result) ≡ f }
         ensures bounded { (a b k : ℕ) → Self.contract.bound self a
-            → I.IntoFallibleIter.contract.bound (join_by.merge_join_by_right result) b → a + b ≤ k
+            → I.IntoFallibleIter.contract.bound
+            (sides.right_source (join_by.merge_join_by_parts result)) b → a + b ≤ k
             → AtMost (seen_as join_by.merge_join_by_parts (join_by.merge_join_by_contract
             Self.contract I.IntoFallibleIter.contract F.FnMut)) result k }
         ensures lists { (h : Self.Item → I.Item → Result Ordering Self.Error)
@@ -1432,13 +1437,18 @@ pub trait FallibleItertools: FallibleIterator {
     final fn zip_longest<I>(self, other: I) -> ZipLongest<Self, I::IntoFallibleIter>
     where
         I: IntoFallibleIterator<Error = Self::Error>,
-        ensures left { zip_longest.zip_longest_left result ≡ self }
-        ensures left_ended { zip_longest.zip_longest_left_ended result ≡ false }
-        ensures held { zip_longest.zip_longest_held result ≡ None }
-        ensures right { I.into_gives other (zip_longest.zip_longest_right result) }
-        ensures right_ended { zip_longest.zip_longest_right_ended result ≡ false }
+        ensures left { sides.left_source
+            (zip_longest.zip_longest_parts {B = I.Item} result) ≡ self }
+        ensures left_ended { sides.left_ended
+            (zip_longest.zip_longest_parts {B = I.Item} result) ≡ false }
+        ensures held { sides.left_item (zip_longest.zip_longest_parts {B = I.Item} result) ≡ None }
+        ensures right { I.into_gives other
+            (sides.right_source (zip_longest.zip_longest_parts {B = I.Item} result)) }
+        ensures right_ended { sides.right_ended
+            (zip_longest.zip_longest_parts {B = I.Item} result) ≡ false }
         ensures bounded { (a b k : ℕ) → Self.contract.bound self a
-            → I.IntoFallibleIter.contract.bound (zip_longest.zip_longest_right result) b → a + b ≤ k
+            → I.IntoFallibleIter.contract.bound
+            (sides.right_source (zip_longest.zip_longest_parts {B = I.Item} result)) b → a + b ≤ k
             → AtMost (seen_as zip_longest.zip_longest_parts
             (zip_longest.zip_longest_contract Self.contract I.IntoFallibleIter.contract)) result k }
         ensures lists { OverBoth Self.contract.steps self I.into_gives other
@@ -1474,14 +1484,16 @@ pub trait FallibleItertools: FallibleIterator {
         I: IntoFallibleIterator<Error = Self::Error>,
         F: FnMut() -> Self::Error,
         requires { IsCallable (call_of_none F.FnMut) (λ g _. F.pre g) (λ _. ⊤) unequal }
-        ensures left { zip_eq.zip_eq_left result ≡ self }
-        ensures left_ended { zip_eq.zip_eq_left_ended result ≡ false }
-        ensures held { zip_eq.zip_eq_held result ≡ None }
-        ensures right { I.into_gives other (zip_eq.zip_eq_right result) }
-        ensures right_ended { zip_eq.zip_eq_right_ended result ≡ false }
-        ensures closure { zip_eq.zip_eq_closure result ≡ unequal }
+        ensures left { sides.left_source (zip_eq.zip_eq_parts {B = I.Item} result) ≡ self }
+        ensures left_ended { sides.left_ended (zip_eq.zip_eq_parts {B = I.Item} result) ≡ false }
+        ensures held { sides.left_item (zip_eq.zip_eq_parts {B = I.Item} result) ≡ None }
+        ensures right { I.into_gives other
+            (sides.right_source (zip_eq.zip_eq_parts {B = I.Item} result)) }
+        ensures right_ended { sides.right_ended (zip_eq.zip_eq_parts {B = I.Item} result) ≡ false }
+        ensures closure { sides.asked_closure (zip_eq.zip_eq_parts {B = I.Item} result) ≡ unequal }
         ensures bounded { (a b k : ℕ) → Self.contract.bound self a
-            → I.IntoFallibleIter.contract.bound (zip_eq.zip_eq_right result) b → a + b ≤ k
+            → I.IntoFallibleIter.contract.bound
+            (sides.right_source (zip_eq.zip_eq_parts {B = I.Item} result)) b → a + b ≤ k
             → AtMost (seen_as zip_eq.zip_eq_parts (zip_eq.zip_eq_contract Self.contract
             I.IntoFallibleIter.contract F.FnMut)) result k }
         ensures lists { (e : Self.Error) → list.Acts (call_of_none F.FnMut) unequal (λ _. e)

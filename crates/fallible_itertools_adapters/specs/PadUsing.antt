@@ -11,7 +11,7 @@ use Rattle.fallible_iterator.specs.OneToOne.Map.{map_outcome}
 use Rattle.fallible_iterator.specs.Passing.{PassTrace, passing_contract}
 use Rattle.fallible_iterator.specs.Fuse.{Fuse}
 use Rattle.fallible_itertools_adapters.specs.Sides.{fused_contract, sides_contract, sides_step}
-use Rattle.fallible_itertools_adapters.specs.ZipLongest.{longest_rule, zip_longest_hints}
+use Rattle.fallible_itertools_adapters.specs.ZipLongest.{hint_greater, longest_rule}
 use Rattle.fallible_itertools_adapters.specs.declared.pad_using.PadUsing.{PadUsing}
 use Rattle.fallible_itertools_adapters.specs.declared.zip_longest.EitherOrBoth.{EitherOrBoth}
 use Rattle.fallible_itertools_adapters.specs.declared.zip_longest.EitherOrBoth.TheVariants.{Both, Left, Right}
@@ -73,7 +73,7 @@ BothFree p = (p.0.1 ≡ None) × (p.1.1 ≡ None)
 
 -- the contract of `ZipLongest` of the source, fused, and the indices
 abbrev pub beside_index_contract : {S A E : Type 0} → Contract S A E → Contract (Fuse S × (ℕ × ℕ)) (EitherOrBoth A ℕ) E
-beside_index_contract m = parts_as both_sides (sides_contract (fused_contract m) index_contract longest_rule (zip_longest_hints (fused_contract m) index_contract))
+beside_index_contract m = parts_as both_sides (sides_contract (fused_contract m) index_contract longest_rule hint_greater)
 
 -- ---- the adapter
 

@@ -1,15 +1,20 @@
 -- What joins two sources and holds at most one item of each: each call draws the left and then the right, and a rule says what is made of what both yield. Each side is fused.
-use Rattle.std.specs.Prelude.{ℕ, ◌+◌, ◌≤◌, Option, Some, None, ◌≡◌, List, [], ◌∷◌, map, Ok, ◌⊎◌, ⊤}
+use Rattle.std.specs.Prelude.{ℕ, ◌+◌, ◌≤◌, Bool, true, false, cond, Option, Some, None, ◌≡◌, List, [], ◌∷◌, map, Ok, Err, Result, ◌⊎◌, ⊤}
 use Rattle.std.specs.List.{FoldsTo}
 use Rattle.std.specs.Iterator.{Count, count_add, count_map}
-use Rattle.fallible_iterator.specs.Traces.{Answered, Run, first_of, item, failure, is_end}
+use Rattle.std.specs.declared.cmp.Ordering.{Ordering}
+use Rattle.std.specs.declared.cmp.Ordering.TheVariants.{Less, Equal, Greater}
+use Rattle.fallible_iterator.specs.Traces.{Answered, Run, first_of, item, failure, end, is_end}
+use Rattle.fallible_iterator.specs.Closures.{IsCallable, MayAnswer}
 use Rattle.fallible_iterator.specs.Closing.{closing_step}
 use Rattle.fallible_iterator.specs.Contract.{Contract, lenders_of_both, parts_as}
-use Rattle.fallible_iterator.specs.Cutting.Fuse.{fuse_contract, fuse_parts}
+use Rattle.fallible_iterator.specs.Cutting.Fuse.{fuse_contract, fuse_ended, fuse_parts, fuse_source}
 use Rattle.fallible_iterator.specs.Held.{held_count}
 use Rattle.fallible_iterator.specs.Hints.{hint_sum}
 use Rattle.fallible_iterator.specs.Fuse.{Fuse}
 use Rattle.fallible_itertools_adapters.specs.declared.sides.Holding.{Holding}
+use Rattle.fallible_itertools_adapters.specs.declared.zip_longest.EitherOrBoth.{EitherOrBoth}
+use Rattle.fallible_itertools_adapters.specs.declared.zip_longest.EitherOrBoth.TheVariants.{Both, Left, Right}
 
 -- ---- a fused source
 
@@ -64,6 +69,45 @@ side_hint None h = h
 -- what a side may hint
 abbrev pub SideHints : {S A E : Type 0} → Contract S A E → S × Option A → ℕ × Option ℕ → Type 0
 SideHints m p h = (k : ℕ × Option ℕ) × m.hints p.0 k × (h ≡ side_hint p.1 k)
+
+-- ---- the parts of what joins two sources: each side, fused, with what is held of it, and the closure
+
+module _ {T U A B F : Type 0} where
+  -- the left side, fused
+  abbrev pub left_fused : (Fuse T × Option A) × (Fuse U × Option B) × F → Fuse T
+  left_fused p = p.0.0
+
+  -- the left side
+  abbrev pub left_source : (Fuse T × Option A) × (Fuse U × Option B) × F → T
+  left_source p = fuse_source (left_fused p)
+
+  -- whether the left's end was met
+  abbrev pub left_ended : (Fuse T × Option A) × (Fuse U × Option B) × F → Bool
+  left_ended p = fuse_ended (left_fused p)
+
+  -- the left's item that is held, if there is one
+  abbrev pub left_item : (Fuse T × Option A) × (Fuse U × Option B) × F → Option A
+  left_item p = p.0.1
+
+  -- the right side, fused
+  abbrev pub right_fused : (Fuse T × Option A) × (Fuse U × Option B) × F → Fuse U
+  right_fused p = p.1.0
+
+  -- the right side
+  abbrev pub right_source : (Fuse T × Option A) × (Fuse U × Option B) × F → U
+  right_source p = fuse_source (right_fused p)
+
+  -- whether the right's end was met
+  abbrev pub right_ended : (Fuse T × Option A) × (Fuse U × Option B) × F → Bool
+  right_ended p = fuse_ended (right_fused p)
+
+  -- the right's item that is held, if there is one
+  abbrev pub right_item : (Fuse T × Option A) × (Fuse U × Option B) × F → Option B
+  right_item p = p.1.1
+
+  -- the closure
+  abbrev pub asked_closure : (Fuse T × Option A) × (Fuse U × Option B) × F → F
+  asked_closure p = p.2
 
 -- ---- both sides
 
@@ -179,9 +223,9 @@ RightFree p = p.1.1 ≡ None
 abbrev pub joins_all : {S U A B C E F V : Type 0} → (S → List (Answered A E) → S → Type 0) → (U → List (Answered B E) → U → Type 0) → Rule A B C E F V → (S × Option A) × (U × Option B) × F → List (Answered C E) → (S × Option A) × (U × Option B) × F → Type 0
 joins_all {A = A} {B = B} {E = E} traces others rule p trace q = (l : List (Answered A E)) × (k : List (Answered B E)) × traces p.0.0 l q.0.0 × others p.1.0 k q.1.0 × SidesTrace first_of first_of rule ((l, p.0.1), (k, p.1.1), p.2) trace (([], q.0.1), ([], q.1.1), q.2)
 
--- The bounds of both sides and what is held of them are added up, and so is what remains.
-abbrev pub sides_contract : {S U A B C E F V : Type 0} → Contract S A E → Contract U B E → Rule A B C E F V → ((S × Option A) × (U × Option B) × F → ℕ × Option ℕ → Type 0) → Contract ((S × Option A) × (U × Option B) × F) C E
-sides_contract left right rule hints = record {
+-- The bounds of both sides and what is held of them are added up, and so is what remains. The hint is made of those of both sides, each with what is held of it.
+abbrev pub sides_contract : {S U A B C E F V : Type 0} → Contract S A E → Contract U B E → Rule A B C E F V → (ℕ × Option ℕ → ℕ × Option ℕ → ℕ × Option ℕ) → Contract ((S × Option A) × (U × Option B) × F) C E
+sides_contract left right rule hint = record {
   can_next = λ p. left.can_next p.0.0 × right.can_next p.1.0 × rule.askable (side_gives left p.0) (side_gives right p.1) p.2;
   steps = sides_step left.steps right.steps rule;
   bound = λ p n. (a : ℕ) × (b : ℕ) × left.bound p.0.0 a × right.bound p.1.0 b × ((a + held_count p.0.1) + (b + held_count p.1.1) ≤ n);
@@ -189,7 +233,119 @@ sides_contract left right rule hints = record {
   remaining = λ p. count_add (side_remaining left p.0) (side_remaining right p.1);
   may_give = λ p z. rule.gives (side_gives left p.0) (side_gives right p.1) z;
   may_fail = λ p e. left.may_fail p.0.0 e ⊎ (right.may_fail p.1.0 e ⊎ rule.refuses (side_gives left p.0) (side_gives right p.1) p.2 e);
-  hints = hints;
+  hints = λ p h. (g : ℕ × Option ℕ) × (k : ℕ × Option ℕ) × left.hints p.0.0 g × right.hints p.1.0 k × (h ≡ hint (side_hint p.0.1 g) (side_hint p.1.1 k));
   lenders = λ p. lenders_of_both (left.lenders p.0.0) (right.lenders p.1.0);
   traces = joins_all left.traces right.traces rule;
+}
+
+-- ---- a join: of two items one is taken, or both
+
+-- the two items, if both sides yielded one
+abbrev pub two_items : {A B : Type 0} → Option A → Option B → Option (A × B)
+two_items (Some x) (Some y) = Some (x, y)
+two_items (Some x) None = None
+two_items None y = None
+
+module _ {F A B R : Type 0} (call : F → A → B → R → F → Type 0) where
+  -- one call on two items
+  abbrev pub call_on_two : F → A × B → R → F → Type 0
+  call_on_two f z r g = call f z.0 z.1 r g
+
+  -- f is called on two items, and returns; if there are not two, it isn't called, and stays as it is
+  abbrev pub AsksOfTwo : F → Option (A × B) → Option R → F → Type 0
+  AsksOfTwo f (Some z) (Some r) g = call_on_two f z r g
+  AsksOfTwo f (Some z) None g = ⊥
+  AsksOfTwo f None (Some r) g = ⊥
+  AsksOfTwo f None None g = g ≡ f
+
+-- the first of three by `Less`, the second by `Equal`, and the third by `Greater`
+abbrev pub by_ordering : {X : Type 0} → X → X → X → Ordering → X
+by_ordering less equal greater Less = less
+by_ordering less equal greater Equal = equal
+by_ordering less equal greater Greater = greater
+
+-- What is taken of two items: the left's by `Less`, the right's by `Greater`, and both by `Equal`.
+abbrev pub taken : {A B : Type 0} → A → B → Ordering → EitherOrBoth A B
+taken x y o = by_ordering (Left x) (Both x y) (Right y) o
+
+-- P holds of the left's item, and Q of the right's
+abbrev pub OfEach : {A B : Type 0} → (A → Type 0) → (B → Type 0) → EitherOrBoth A B → Type 0
+OfEach P Q (Both x y) = P x × Q y
+OfEach P Q (Left x) = P x
+OfEach P Q (Right y) = Q y
+
+module _ {K E : Type 0} (order : K → Ordering) where
+  -- the left's item alone is taken by what was said of both
+  abbrev pub left_first : Option (Result K E) → Bool
+  left_first (Some (Ok k)) = by_ordering true false false (order k)
+  left_first (Some (Err e)) = false
+  left_first None = false
+
+  -- the right's item alone is
+  abbrev pub right_first : Option (Result K E) → Bool
+  right_first (Some (Ok k)) = by_ordering false false true (order k)
+  right_first (Some (Err e)) = false
+  right_first None = false
+
+  module _ {A B C : Type 0} (makes : EitherOrBoth A B → C) where
+    -- what is made of what is taken of two items, or the failure
+    abbrev pub joined_of_two : A → B → Option (Result K E) → Answered C E
+    joined_of_two x y (Some (Ok k)) = item (makes (taken x y (order k)))
+    joined_of_two x y (Some (Err e)) = failure e
+    joined_of_two x y None = item (makes (Both x y))
+
+    -- what is made of two items, of the one item where there is one, or an end
+    abbrev pub join_answer : Option A → Option B → Option (Result K E) → Answered C E
+    join_answer (Some x) (Some y) v = joined_of_two x y v
+    join_answer (Some x) None v = item (makes (Left x))
+    join_answer None (Some y) v = item (makes (Right y))
+    join_answer None None v = end
+
+    -- what is made of what is taken of x and y, before the list `left` where the left's is taken, `right` where the right's is, and `after` where both are; or the failure before `after`
+    abbrev pub taken_before : Result K E → A → B → List (Result C E) → List (Result C E) → List (Result C E) → List (Result C E)
+    taken_before (Ok k) x y left right after = Ok (makes (taken x y (order k))) ∷ by_ordering left after right (order k)
+    taken_before (Err e) x y left right after = Err e ∷ after
+
+    -- the first list's item x among the items of b: those of b that are taken before it, with the failures met there, and then x, alone or with the item of b that is taken with it; `rest` makes of what is left of b what comes after that, and after a failure of h, which loses x and the item of b
+    abbrev pub taken_among : (A → B → Result K E) → A → (List (Result B E) → List (Result C E)) → List (Result B E) → List (Result C E)
+    taken_among h x rest [] = Ok (makes (Left x)) ∷ rest []
+    taken_among h x rest (Err e ∷ b) = Err e ∷ taken_among h x rest b
+    taken_among h x rest (Ok y ∷ b) = taken_before (h x y) x y (rest (Ok y ∷ b)) (taken_among h x rest b) (rest b)
+
+-- What is said of two items, by which one is taken or both, and what is made of that.
+pub record Join (A B C E F K : Type 0) : Type 1 where
+  -- the closure f says so of them, or fails, and is then g
+  pub says : F → A → B → Result K E → F → Type 0
+  -- by what is said the left's is taken, or the right's, or both
+  pub order : K → Ordering
+  -- what is made of what is taken
+  pub makes : EitherOrBoth A B → C
+  -- f may be asked of items of which P and Q hold
+  pub askable : (A → Type 0) → (B → Type 0) → F → Type 0
+  -- what may come of items of which P and Q hold
+  pub gives : (A → Type 0) → (B → Type 0) → C → Type 0
+  -- f may fail so on such items
+  pub refuses : (A → Type 0) → (B → Type 0) → F → E → Type 0
+
+-- The rule of a join: of two items one is taken, and the other held, or both are taken; both are lost if what is asked of them fails. One item is taken without a question.
+abbrev pub join_rule : {A B C E F K : Type 0} → Join A B C E F K → Rule A B C E F (Option (Result K E))
+join_rule j = record {
+  decides = λ f x y v g. AsksOfTwo j.says f (two_items x y) v g;
+  answer = join_answer j.order j.makes;
+  left_held = λ x y v. cond (right_first j.order v) x None;
+  right_held = λ x y v. cond (left_first j.order v) y None;
+  askable = j.askable;
+  gives = j.gives;
+  refuses = j.refuses;
+}
+
+-- a join by a closure that is called on two items
+abbrev pub join_by : {A B C E F K : Type 0} → (F → A → B → Result K E → F → Type 0) → (F → A → B → Type 0) → (K → Ordering) → (EitherOrBoth A B → C) → ((A → Type 0) → (B → Type 0) → C → Type 0) → Join A B C E F K
+join_by call takes order makes gives = record {
+  says = call;
+  order = order;
+  makes = makes;
+  askable = λ P Q f. IsCallable (call_on_two call) (λ g z. takes g z.0 z.1) (λ z. P z.0 × Q z.1) f;
+  gives = gives;
+  refuses = λ P Q f e. MayAnswer (call_on_two call) (λ z. P z.0 × Q z.1) f (λ z v. v ≡ Err e);
 }

@@ -1,54 +1,21 @@
 -- `ZipEq`: the items of two sources as pairs, and a failure for each item that has no partner.
-use Rattle.std.specs.Prelude.{ℕ, Bool, true, false, Option, Some, None, ◌≡◌, List, map, Ok, Err, Result, ⊤}
+use Rattle.std.specs.Prelude.{Bool, true, false, Option, Some, None, ◌≡◌, List, map, Ok, Err, Result, ⊤}
 use Rattle.std.specs.Fn.{Mut}
 use Rattle.fallible_iterator.specs.Closures.{IsCallable, MayAnswer}
 use Rattle.fallible_iterator.specs.Contract.{Contract}
-use Rattle.fallible_iterator.specs.Cutting.Fuse.{fuse_ended, fuse_source}
 use Rattle.fallible_iterator.specs.Hints.{hint_smaller}
 use Rattle.fallible_iterator.specs.Sources.FromFn.{call_of_none}
 use Rattle.fallible_iterator.specs.Traces.{Answered, item, failure, end}
 use Rattle.fallible_iterator.specs.Fuse.{Fuse}
-use Rattle.fallible_itertools_adapters.specs.Sides.{Rule, SidesTrace, fused_contract, fused_steps, sides_contract, holding_source, holding_held, side_hint}
+use Rattle.fallible_itertools_adapters.specs.Sides.{Rule, SidesTrace, fused_contract, fused_steps, sides_contract, holding_parts}
 use Rattle.fallible_itertools_adapters.specs.ZipLongest.{zipped_longest}
 use Rattle.fallible_itertools_adapters.specs.declared.zip_eq.ZipEq.{ZipEq}
 use Rattle.fallible_itertools_adapters.specs.declared.zip_longest.EitherOrBoth.{EitherOrBoth}
 use Rattle.fallible_itertools_adapters.specs.declared.zip_longest.EitherOrBoth.TheVariants.{Both, Left, Right}
 
--- the left side, fused
-abbrev pub zip_eq_left_fused : {T U F A E : Type 0} → ZipEq T U F A E → Fuse T
-zip_eq_left_fused s = holding_source s.left
-
--- the left side
-abbrev pub zip_eq_left : {T U F A E : Type 0} → ZipEq T U F A E → T
-zip_eq_left s = fuse_source (zip_eq_left_fused s)
-
--- whether the left's end was met
-abbrev pub zip_eq_left_ended : {T U F A E : Type 0} → ZipEq T U F A E → Bool
-zip_eq_left_ended s = fuse_ended (zip_eq_left_fused s)
-
--- the left's item that is held, if there is one
-abbrev pub zip_eq_held : {T U F A E : Type 0} → ZipEq T U F A E → Option A
-zip_eq_held s = holding_held s.left
-
--- the right side, fused
-abbrev pub zip_eq_right_fused : {T U F A E : Type 0} → ZipEq T U F A E → Fuse U
-zip_eq_right_fused s = s.right
-
--- the right side
-abbrev pub zip_eq_right : {T U F A E : Type 0} → ZipEq T U F A E → U
-zip_eq_right s = fuse_source (zip_eq_right_fused s)
-
--- whether the right's end was met
-abbrev pub zip_eq_right_ended : {T U F A E : Type 0} → ZipEq T U F A E → Bool
-zip_eq_right_ended s = fuse_ended (zip_eq_right_fused s)
-
--- the closure
-abbrev pub zip_eq_closure : {T U F A E : Type 0} → ZipEq T U F A E → F
-zip_eq_closure s = s.f
-
 -- the left with what is held of it, and the right, of which nothing is held, both fused; and the closure
 abbrev pub zip_eq_parts : {T U F A E B : Type 0} → ZipEq T U F A E → (Fuse T × Option A) × (Fuse U × Option B) × F
-zip_eq_parts s = ((zip_eq_left_fused s, zip_eq_held s), (zip_eq_right_fused s, None), zip_eq_closure s)
+zip_eq_parts s = (holding_parts s.left, (s.right, None), s.f)
 
 -- ---- the rule
 
@@ -94,17 +61,13 @@ pair_rule call takes = record {
 abbrev pub takes_none : {F E : Type 0} → Mut F (Unit {0}) E → F → Type 0
 takes_none g f = g.pre f tt
 
--- `ZipEq`: both sides are fused, and there is a place for each answer: the pair of two items, or what the closure returns, as the failure of an item that is alone. One side's failure is yielded alone, and the left's item beside one of the right stands at the next place too.
+-- `ZipEq`: the places of `ZipLongest`, where two items are a pair, and what the closure returns for an item alone is its failure.
 abbrev pub ZipEqTrace : {S U F A B E : Type 0} → (S → Answered A E → S → Type 0) → (U → Answered B E → U → Type 0) → Mut F (Unit {0}) E → (Fuse S × Option A) × (Fuse U × Option B) × F → List (Answered (A × B) E) → (Fuse S × Option A) × (Fuse U × Option B) × F → Type 0
 ZipEqTrace steps others g p trace q = SidesTrace (fused_steps steps) (fused_steps others) (pair_rule (call_of_none g) (takes_none g)) p trace q
 
--- The smaller bounds of both sides.
-abbrev pub zip_eq_hints : {S U F A B E : Type 0} → Contract S A E → Contract U B E → (S × Option A) × (U × Option B) × F → ℕ × Option ℕ → Type 0
-zip_eq_hints left right p h = (g : ℕ × Option ℕ) × (k : ℕ × Option ℕ) × left.hints p.0.0 g × right.hints p.1.0 k × (h ≡ hint_smaller (side_hint p.0.1 g) (side_hint p.1.1 k))
-
 -- `ZipEq`'s contract: its hint has the smaller bounds of both sides.
 abbrev pub zip_eq_contract : {S U F A B E : Type 0} → Contract S A E → Contract U B E → Mut F (Unit {0}) E → Contract ((Fuse S × Option A) × (Fuse U × Option B) × F) (A × B) E
-zip_eq_contract left right g = sides_contract (fused_contract left) (fused_contract right) (pair_rule (call_of_none g) (takes_none g)) (zip_eq_hints (fused_contract left) (fused_contract right))
+zip_eq_contract left right g = sides_contract (fused_contract left) (fused_contract right) (pair_rule (call_of_none g) (takes_none g)) hint_smaller
 
 -- ---- what it lists
 

@@ -26,14 +26,8 @@ impl<T: FallibleIterator, U: FallibleIterator<Error = T::Error>, F> MergeJoinBy<
         ensures { merge_join_by_parts result ≡ ((left, None), (right, None), f) }
     {
         MergeJoinBy {
-            left: Holding {
-                it: left,
-                held: None,
-            },
-            right: Holding {
-                it: right,
-                held: None,
-            },
+            left: Holding::new(left),
+            right: Holding::new(right),
             f,
         }
     }

@@ -12,6 +12,16 @@ pub(crate) struct Holding<I, X> {
     pub(crate) held: Option<X>,
 }
 
+impl<I, X> Holding<I, X> {
+    // The source, of which nothing is buffered.
+    #[inline(always)]
+    pub(crate) fn new(it: I) -> Holding<I, X>
+        ensures { holding_parts result ≡ (it, None) }
+    {
+        Holding { it, held: None }
+    }
+}
+
 impl<I: FallibleIterator> Holding<I, I::Item>
 where
     I::Item: Drop,

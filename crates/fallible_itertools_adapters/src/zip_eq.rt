@@ -23,10 +23,7 @@ impl<T: FallibleIterator, U: FallibleIterator<Error = T::Error>, F> ZipEq<T, U, 
         ensures { zip_eq_parts {B = U.Item} result ≡ ((left, None), (right, None), f) }
     {
         ZipEq {
-            left: Holding {
-                it: left,
-                held: None,
-            },
+            left: Holding::new(left),
             right,
             f,
         }

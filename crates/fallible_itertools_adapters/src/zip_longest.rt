@@ -162,10 +162,7 @@ impl<T: FallibleIterator, U: FallibleIterator<Error = T::Error>> ZipLongest<T, U
         ensures { zip_longest_parts {B = U.Item} result ≡ ((left, None), (right, None), tt) }
     {
         ZipLongest {
-            left: Holding {
-                it: left,
-                held: None,
-            },
+            left: Holding::new(left),
             right,
         }
     }

@@ -1,5 +1,5 @@
 -- What `PadUsing` lists, that its closure may be called, and its hint.
-use Rattle.std.specs.Prelude.{◌≡◌, ℕ, zero, suc, ◌+◌, ◌-◌, ◌<◌, ◌≤◌, ⊤, false, max, Option, Some, None, Result, Ok, Err, List, [], ◌∷◌, ◌++◌, length, map}
+use Rattle.std.specs.Prelude.{◌≡◌, ℕ, zero, suc, ◌+◌, ◌-◌, ◌<◌, ◌≤◌, false, max, Option, Some, Result, Ok, Err, List, [], ◌∷◌, ◌++◌, length, map}
 use Rattle.std.specs.List.{FoldsTo}
 use Rattle.std.specs.Fn.{Mut}
 use Rattle.std.proofs.Common.{refl, sym, ap, subst, ◌∙◌, arith, inl, inr, length-append}
@@ -195,7 +195,7 @@ module _ {S F X B E : Type 0} (steps : S → Answered X E → S → Type 0) (cal
 
 pub lists_for_good_padded : {S F A E : Type 0} {p : Fuse S} (m : Contract S A E) (g : Mut F (ℕ × Unit {0}) (Result A E)) (s : PadUsing S F) (f : F) (n : ℕ) (it : S) (h : ℕ → Result A E) (l : List (Result A E)) → pad_using_parts s ≡ ((p, (0, n)), f) → fuse_parts p ≡ (it, false) → Acts (call_by_value g) f h → Lists m.steps it l → ListsForGood (parts_as pad_using_parts (pad_using_contract m g)).steps s (padded n h l)
 lists_for_good_padded {E = E} {p = p} m g s f n it h l parts fresh acts i =
-    let sides = gives_for_good_sides (fused_steps m.steps) (IndexSteps E) longest_rule (λ u. ⊤) zipped_longest lists_by_longest is_lawful_rule_longest (both_sides (p, (0, n))) l (indices_left (0, n)) (gives_for_good_of_fresh m p it l fresh i) (gives_indices E (0, n)) tt in
+    let sides = gives_for_good_sides (fused_steps m.steps) (IndexSteps E) longest_rule (λ u. u ≡ tt) zipped_longest lists_by_longest is_lawful_rule_longest (both_sides (p, (0, n))) l (indices_left (0, n)) (gives_for_good_of_fresh m p it l fresh i) (gives_indices E (0, n)) refl in
     let beside = gives_for_good_seen both_sides _ (zipped_longest l (indices_left (0, n))) (p, (0, n)) sides in
     lists_for_good_seen pad_using_parts (pad_using_contract m g).steps s parts (mapped_is_padded g h n l) (gives_for_good_mapped (beside_index_contract m).steps (pad_call g) f (pad_value g h) (acts_pad g f h acts) (zipped_longest l (indices_left (0, n))) (p, (0, n)) beside)
 

@@ -1,19 +1,23 @@
 -- What joins two sources and holds at most one item of each: its calls, and what it lists.
-use Rattle.std.specs.Prelude.{ℕ, ◌≡◌, ◌+◌, ◌-◌, ◌≤◌, ◌⊎◌, Bool, true, false, length, List, [], ◌∷◌, Some, None, Option, Result, Ok, Err, IfSome, ⊤}
+use Rattle.std.specs.Prelude.{ℕ, ◌≡◌, ◌+◌, ◌-◌, ◌≤◌, ◌⊎◌, max, Bool, true, false, cond, length, List, [], ◌∷◌, Some, None, Option, Result, Ok, Err, IfSome, ⊤}
 use Rattle.std.specs.Result.{IsErrAnd}
-use Rattle.std.proofs.Common.{refl, sym, ap, subst, arith, inl, inr}
+use Rattle.std.specs.declared.cmp.Ordering.{Ordering}
+use Rattle.std.specs.declared.cmp.Ordering.TheVariants.{Less, Equal, Greater}
+use Rattle.std.proofs.Common.{refl, sym, ap, subst, ◌∙◌, arith, inl, inr}
 use Rattle.fallible_iterator.specs.Traces.{Answered, Run, Yields, item, failure, end, is_end}
 use Rattle.fallible_iterator.specs.Closing.{closing_step}
 use Rattle.fallible_iterator.specs.Contract.{Contract, Lawful}
 use Rattle.fallible_iterator.specs.Cutting.Fuse.{fuse_parts}
 use Rattle.fallible_iterator.specs.Held.{held_count}
 use Rattle.fallible_iterator.specs.Hints.{fitting_sum}
-use Rattle.fallible_iterator.specs.Lists.{GivesForGood, Lists, result_answer}
+use Rattle.fallible_iterator.specs.Lists.{ActsWith, GivesForGood, Lists, result_answer}
+use Rattle.fallible_iterator.specs.SoundHints.{AsSoundAsBoth}
 use Rattle.fallible_iterator.proofs.Lemmas.Cutting.Fuse.{lists_for_good_fused}
 use Rattle.fallible_iterator.proofs.Lemmas.Hints.Drawn.{if_some_at_least_of_smaller}
 use Rattle.fallible_iterator.proofs.Lemmas.Hints.Joining.{if_some_fitting_sum_at_least_both}
 use Rattle.fallible_iterator.specs.Fuse.{Fuse}
-use Rattle.fallible_itertools_adapters.specs.Sides.{fused_steps, side_gives, side_hint, GivesHeldFirst, GivesIf, Rule, SidesPlace, left_failed, right_failed, both_gave, left_gave, right_gave, left_held_after, right_held_after, place_answer, place_decides}
+use Rattle.fallible_itertools_adapters.specs.declared.zip_longest.EitherOrBoth.TheVariants.{Left, Right}
+use Rattle.fallible_itertools_adapters.specs.Sides.{AsksOfTwo, Join, by_ordering, join_answer, join_rule, joined_of_two, left_first, right_first, taken_before, two_items, fused_steps, side_gives, side_hint, GivesHeldFirst, GivesIf, Rule, SidesPlace, left_failed, right_failed, both_gave, left_gave, right_gave, left_held_after, right_held_after, place_answer, place_decides}
 use Rattle.fallible_itertools_adapters.specs.Laws.Sides.{IsLawfulRule, side_kept_and_of_item_where_given}
 use Rattle.fallible_itertools_adapters.specs.Laws.SidesTraces.{SidesState, SidesStep}
 
@@ -274,3 +278,163 @@ module _ {S U A B C E F V : Type 0} (steps : S → Answered A E → S → Type 0
   pub both_come : (zs : List C) (p q : SidesState steps others rule) → Yields (SidesStep steps others rule) p zs q → BothCome p (length zs)
   both_come [] p q ran = record { of_left = 0; of_right = 0; left = record { came = []; left = p.0.0; ran = refl; many = omega arith }; right = record { came = []; left = p.1.0; ran = refl; many = omega arith }; few = omega arith }
   both_come (z ∷ zs) p q ran = let b = both_come_one_more_at_item p ran.0 z (length zs) ran.1 (both_come zs ran.0 q ran.2) in record { of_left = b.of_left; of_right = b.of_right; left = b.left; right = b.right; few = omega (arith, b.few) }
+
+-- ---- hints of both sides
+
+-- The bounds of both sides as they stand behind what is held make those of the hint.
+pub record Bounds (low high : ℕ → ℕ → ℕ) (h g k : ℕ × Option ℕ) : Type 0 where
+  pub below : (n i j : ℕ) → low i j ≤ n → g.0 ≤ i → k.0 ≤ j → h.0 ≤ n
+  pub above : (n i j : ℕ) → n ≤ high i j → IfSome g.1 (λ m. i ≤ m) → IfSome k.1 (λ m. j ≤ m) → IfSome h.1 (λ m. n ≤ m)
+
+pub as_sound_as_both_sides : {S U A B C E F V : Type 0} (steps : S → Answered A E → S → Type 0) (others : U → Answered B E → U → Type 0) → NoItemAfterEnd steps → NoItemAfterEnd others → (rule : Rule A B C E F V) → IsLawfulRule rule → (low high : ℕ → ℕ → ℕ) → GivesAsMany rule low → TakesAsMany rule high → (p : SidesState steps others rule) (h g k : ℕ × Option ℕ) → Bounds low high h (side_hint p.0.1 g) (side_hint p.1.1 k) → AsSoundAsBoth (SidesStep steps others rule) p h steps p.0.0 g others p.1.0 k
+as_sound_as_both_sides steps others once once_right rule lawful low high gives takes p h g k bounds = record {
+  above = λ i j zs q ran.
+      let b = both_come steps others once once_right rule high takes lawful zs p q ran in
+      bounds.above _ b.of_left b.of_right b.few (side_hint_above p.0.1 g b.of_left _ b.left.many (i b.left.came b.left.left b.left.ran)) (side_hint_above p.1.1 k b.of_right _ b.right.many (j b.right.came b.right.left b.right.ran));
+  below = λ i j zs q r ran w.
+      let b = both_end steps others rule low gives lawful zs p q r ran w in
+      bounds.below _ b.of_left b.of_right b.few (side_hint_below p.0.1 g b.of_left _ (i b.left.came b.left.left b.left.last b.left.ran b.left.ended) b.left.few) (side_hint_below p.1.1 k b.of_right _ (j b.right.came b.right.left b.right.last b.right.ran b.right.ended) b.right.few);
+}
+
+-- ---- a join
+
+-- the item that stands first, where one does
+abbrev first_item : {A E : Type 0} → List (Result A E) → Option A
+first_item [] = None
+first_item (Ok x ∷ l) = Some x
+first_item (Err e ∷ l) = None
+
+-- no failure stands first
+item_is_first_item_of_first_answer : {A E : Type 0} (l : List (Result A E)) (x : Option A) → Ok x ≡ first_answer l → x ≡ first_item l
+item_is_first_item_of_first_answer [] x is = cc
+item_is_first_item_of_first_answer (Ok y ∷ l) x is = cc
+item_is_first_item_of_first_answer (Err e ∷ l) x is = absurd cc
+
+module _ {A B C E F K : Type 0} (j : Join A B C E F K) (h : A → B → Result K E) (W : List (Result A E) → List (Result B E) → List (Result C E)) where
+  -- A list word joins two lists: a failure stands where it is met, one item is taken by itself, and of two what h says.
+  pub record JoinsLists : Type 0 where
+    pub nothing : W [] [] ≡ []
+    pub right_alone : (y : B) (b : List (Result B E)) → W [] (Ok y ∷ b) ≡ Ok (j.makes (Right y)) ∷ W [] b
+    pub right_failure_alone : (e : E) (b : List (Result B E)) → W [] (Err e ∷ b) ≡ Err e ∷ W [] b
+    pub left_alone : (x : A) (a : List (Result A E)) → W (Ok x ∷ a) [] ≡ Ok (j.makes (Left x)) ∷ W a []
+    pub left_failure : (e : E) (a : List (Result A E)) (b : List (Result B E)) → W (Err e ∷ a) b ≡ Err e ∷ W a b
+    pub right_failure : (x : A) (e : E) (a : List (Result A E)) (b : List (Result B E)) → W (Ok x ∷ a) (Err e ∷ b) ≡ Err e ∷ W (Ok x ∷ a) b
+    pub of_two : (x : A) (y : B) (a : List (Result A E)) (b : List (Result B E)) → W (Ok x ∷ a) (Ok y ∷ b) ≡ taken_before j.order j.makes (h x y) x y (W a (Ok y ∷ b)) (W (Ok x ∷ a) b) (W a b)
+
+  module _ (w : JoinsLists) where
+    left_failure_first : (a : List (Result A E)) (b : List (Result B E)) (e : E) → failure e ≡ first_answer a → (failure e ≡ first_answer (W a b)) × (W (rest_of a) b ≡ rest_of (W a b))
+    left_failure_first [] b e is = absurd cc
+    left_failure_first (Ok x ∷ a) b e is = absurd cc
+    left_failure_first (Err d ∷ a) b e is = let same : e ≡ d = cc in rw (w.left_failure d a b) (ap Err same, refl)
+
+    right_failure_first : (a : List (Result A E)) (b : List (Result B E)) (x : Option A) (e : E) → Ok x ≡ first_answer a → failure e ≡ first_answer b → (failure e ≡ first_answer (W a b)) × (W (left_over x a) (rest_of b) ≡ rest_of (W a b))
+    right_failure_first a [] x e is fails = absurd cc
+    right_failure_first a (Ok y ∷ b) x e is fails = absurd cc
+    right_failure_first [] (Err d ∷ b) x e is fails = let no : x ≡ None = cc in let same : e ≡ d = cc in rw (no, w.right_failure_alone d b) (ap Err same, refl)
+    right_failure_first (Ok y ∷ a) (Err d ∷ b) x e is fails = let here : x ≡ Some y = cc in let same : e ≡ d = cc in rw (here, w.right_failure y d a b) (ap Err same, refl)
+    right_failure_first (Err c ∷ a) (Err d ∷ b) x e is fails = absurd cc
+
+    -- what is made of two items, by what is said of them
+    abbrev MadeOfTwo : A → B → List (Result A E) → List (Result B E) → Result K E → Result K E → Type 0
+    MadeOfTwo x y a b v said = let made = taken_before j.order j.makes said x y (W a (Ok y ∷ b)) (W (Ok x ∷ a) b) (W a b) in (joined_of_two j.order j.makes x y (Some v) ≡ first_answer made) × (W (left_over (cond (right_first j.order (Some v)) (Some x) None) (Ok x ∷ a)) (left_over (cond (left_first j.order (Some v)) (Some y) None) (Ok y ∷ b)) ≡ rest_of made)
+
+    left_over_taken : (x : A) (y : B) (a : List (Result A E)) (b : List (Result B E)) (o : Ordering) → W (left_over (cond (by_ordering false false true o) (Some x) None) (Ok x ∷ a)) (left_over (cond (by_ordering true false false o) (Some y) None) (Ok y ∷ b)) ≡ by_ordering (W a (Ok y ∷ b)) (W a b) (W (Ok x ∷ a) b) o
+    left_over_taken x y a b Less = refl
+    left_over_taken x y a b Equal = refl
+    left_over_taken x y a b Greater = refl
+
+    made_of_two : (x : A) (y : B) (a : List (Result A E)) (b : List (Result B E)) (v : Result K E) → MadeOfTwo x y a b v v
+    made_of_two x y a b (Ok k) = (refl, left_over_taken x y a b (j.order k))
+    made_of_two x y a b (Err e) = (refl, refl)
+
+    module _ (f : F) (acts : ActsWith j.says f h) where
+      abbrev GivesFirst : List (Result A E) → List (Result B E) → Option A → Option B → Option (Result K E) → F → Type 0
+      GivesFirst a b x y v k = (k ≡ f) × (join_answer j.order j.makes x y v ≡ first_answer (W a b)) × (W (left_over (cond (right_first j.order v) x None) a) (left_over (cond (left_first j.order v) y None) b) ≡ rest_of (W a b))
+
+      gives_first : (a : List (Result A E)) (b : List (Result B E)) (v : Option (Result K E)) (g k : F) → g ≡ f → Ok (first_item a) ≡ first_answer a → Ok (first_item b) ≡ first_answer b → AsksOfTwo j.says g (two_items (first_item a) (first_item b)) v k → GivesFirst a b (first_item a) (first_item b) v k
+      gives_first (Err e ∷ a) b v g k q m n d = absurd cc
+      gives_first [] (Err e ∷ b) v g k q m n d = absurd cc
+      gives_first (Ok x ∷ a) (Err e ∷ b) v g k q m n d = absurd cc
+      gives_first [] [] (Some v) g k q m n d = absurd d
+      gives_first [] [] None g k q m n d = rw w.nothing (d ∙ q, refl, refl)
+      gives_first [] (Ok y ∷ b) (Some v) g k q m n d = absurd d
+      gives_first [] (Ok y ∷ b) None g k q m n d = rw (w.right_alone y b) (d ∙ q, refl, refl)
+      gives_first (Ok x ∷ a) [] (Some v) g k q m n d = absurd d
+      gives_first (Ok x ∷ a) [] None g k q m n d = rw (w.left_alone x a) (d ∙ q, refl, refl)
+      gives_first (Ok x ∷ a) (Ok y ∷ b) None g k q m n d = absurd d
+      gives_first (Ok x ∷ a) (Ok y ∷ b) (Some v) g k q m n d =
+          let said = acts x y v k (subst (λ (u : F). j.says u x y v k) q d) in
+          let made = subst (λ (s : Result K E). MadeOfTwo x y a b v s) said.1 (made_of_two x y a b v) in
+          rw (w.of_two x y a b) (said.0, made.0, made.1)
+
+      both_first : (a : List (Result A E)) (b : List (Result B E)) (x : Option A) (y : Option B) (v : Option (Result K E)) (g k : F) → g ≡ f → Ok x ≡ first_answer a → Ok y ≡ first_answer b → AsksOfTwo j.says g (two_items x y) v k → GivesFirst a b x y v k
+      both_first a b x y v g k q i l d =
+          let m = item_is_first_item_of_first_answer a x i in
+          let n = item_is_first_item_of_first_answer b y l in
+          subst (λ (z : Option A). GivesFirst a b z y v k) (sym m) (subst (λ (z : Option B). GivesFirst a b (first_item a) z v k) (sym n) (gives_first a b v g k q (subst (λ (z : Option A). ◌≡◌ {A = Answered A E} (Ok z) (first_answer a)) m i) (subst (λ (z : Option B). ◌≡◌ {A = Answered B E} (Ok z) (first_answer b)) n l) (subst (λ (z : Option B). AsksOfTwo j.says g (two_items (first_item a) z) v k) n (subst (λ (z : Option A). AsksOfTwo j.says g (two_items z y) v k) m d))))
+
+      pub lists_by_join : ListsBy (join_rule j) (λ g. g ≡ f) W
+      lists_by_join = record { left_fails = left_failure_first; right_fails = right_failure_first; both_give = λ a b x y v g k q i l d. both_first a b x y v g k q i l d }
+
+-- ---- hints of a join
+
+module _ {A B : Type 0} (x : A) (y : B) (i j : ℕ) where
+  abbrev left_taken : Ordering → ℕ
+  left_taken o = (1 - held_count (cond (by_ordering false false true o) (Some x) None)) + i
+
+  abbrev right_taken : Ordering → ℕ
+  right_taken o = (1 - held_count (cond (by_ordering true false false o) (Some y) None)) + j
+
+  one_of_both_taken : (o : Ordering) → i + j + 1 ≤ left_taken o + right_taken o
+  one_of_both_taken Less = omega arith
+  one_of_both_taken Equal = omega arith
+  one_of_both_taken Greater = omega arith
+
+  one_of_each_taken : (o : Ordering) → max (left_taken o) (right_taken o) ≤ max i j + 1
+  one_of_each_taken Less = omega arith
+  one_of_each_taken Equal = omega arith
+  one_of_each_taken Greater = omega arith
+
+  one_taken_unless_equal : (o : Ordering) → (o ≡ Equal → ⊥) → left_taken o + right_taken o ≤ i + j + 1
+  one_taken_unless_equal Less never = omega arith
+  one_taken_unless_equal Equal never = absurd (never refl)
+  one_taken_unless_equal Greater never = omega arith
+
+module _ {A B C E F K : Type 0} (j : Join A B C E F K) where
+  ends_at_end_of_both : (f g : F) (x : Option A) (y : Option B) (v : Option (Result K E)) → AsksOfTwo j.says f (two_items x y) v g → join_answer j.order j.makes x y v ≡ end → (x ≡ None) × (y ≡ None)
+  ends_at_end_of_both f g (Some x) (Some y) (Some (Ok k)) d is = absurd cc
+  ends_at_end_of_both f g (Some x) (Some y) (Some (Err e)) d is = absurd cc
+  ends_at_end_of_both f g (Some x) (Some y) None d is = absurd d
+  ends_at_end_of_both f g (Some x) None v d is = absurd cc
+  ends_at_end_of_both f g None (Some y) v d is = absurd cc
+  ends_at_end_of_both f g None None v d is = (refl, refl)
+
+  -- each item that is yielded consumes one item or two
+  pub takes_as_many_join : TakesAsMany (join_rule j) (λ i j. i + j)
+  takes_as_many_join f g (Some x) (Some y) (Some (Ok k)) z i l d is e c = one_of_both_taken x y i l (j.order k)
+  takes_as_many_join f g (Some x) (Some y) (Some (Err b)) z i l d is e c = absurd cc
+  takes_as_many_join f g (Some x) (Some y) None z i l d is e c = absurd d
+  takes_as_many_join f g (Some x) None (Some v) z i l d is e c = absurd d
+  takes_as_many_join f g (Some x) None None z i l d is e c = omega arith
+  takes_as_many_join f g None (Some y) (Some v) z i l d is e c = absurd d
+  takes_as_many_join f g None (Some y) None z i l d is e c = omega arith
+  takes_as_many_join f g None None v z i l d is e c = absurd cc
+
+  module _ (many : ℕ → ℕ → ℕ) (two : (x : A) (y : B) (k : K) (i l : ℕ) → many (left_taken x y i l (j.order k)) (right_taken x y i l (j.order k)) ≤ many i l + 1) (left : (i l : ℕ) → many (1 + i) (0 + l) ≤ many i l + 1) (right : (i l : ℕ) → many (0 + i) (1 + l) ≤ many i l + 1) where
+    many_taken_at_most : (f g : F) (x : Option A) (y : Option B) (v : Option (Result K E)) (z : C) (i l : ℕ) → AsksOfTwo j.says f (two_items x y) v g → join_answer j.order j.makes x y v ≡ item z → many ((held_count x - held_count (cond (right_first j.order v) x None)) + i) ((held_count y - held_count (cond (left_first j.order v) y None)) + l) ≤ many i l + 1
+    many_taken_at_most f g (Some x) (Some y) (Some (Ok k)) z i l d is = two x y k i l
+    many_taken_at_most f g (Some x) (Some y) (Some (Err e)) z i l d is = absurd cc
+    many_taken_at_most f g (Some x) (Some y) None z i l d is = absurd d
+    many_taken_at_most f g (Some x) None (Some v) z i l d is = absurd d
+    many_taken_at_most f g (Some x) None None z i l d is = left i l
+    many_taken_at_most f g None (Some y) (Some v) z i l d is = absurd d
+    many_taken_at_most f g None (Some y) None z i l d is = right i l
+    many_taken_at_most f g None None v z i l d is = absurd cc
+
+  -- of each side it consumes one item at most
+  pub gives_as_many_join : GivesAsMany (join_rule j) max
+  gives_as_many_join = record { item_given = λ f g x y v z i l d is. many_taken_at_most max (λ x y k i l. one_of_each_taken x y i l (j.order k)) (λ i l. omega arith) (λ i l. omega arith) f g x y v z i l d is; end_given = ends_at_end_of_both; nothing = refl }
+
+  -- of both sides it consumes one item, where both are never taken
+  pub gives_as_many_unless_both : ((k : K) → j.order k ≡ Equal → ⊥) → GivesAsMany (join_rule j) (λ i j. i + j)
+  gives_as_many_unless_both never = record { item_given = λ f g x y v z i l d is. many_taken_at_most (λ i j. i + j) (λ x y k i l. one_taken_unless_equal x y i l (j.order k) (never k)) (λ i l. omega arith) (λ i l. omega arith) f g x y v z i l d is; end_given = ends_at_end_of_both; nothing = refl }

@@ -11,15 +11,16 @@ use Rattle.fallible_iterator.specs.SoundHints.{AsSoundAsBoth}
 use Rattle.fallible_iterator.specs.Sources.FromFn.{call_of_none}
 use Rattle.fallible_iterator.specs.Traces.{Answered, item, failure, end}
 use Rattle.fallible_iterator.specs.Fuse.{Fuse}
-use Rattle.fallible_iterator.proofs.Lemmas.Lists.ForGood.{lists_once, lists_for_good_seen}
+use Rattle.fallible_iterator.proofs.Lemmas.Lists.ForGood.{lists_for_good_seen}
 use Rattle.fallible_itertools_adapters.specs.Laws.ZipEq.{is_lawful_rule_pair}
 use Rattle.fallible_itertools_adapters.specs.Sides.{fused_steps, side_hint}
 use Rattle.fallible_itertools_adapters.specs.ZipEq.{AsksWhereAlone, failure_or_end, one_is_alone, pair_answer, pair_or, pair_rule, takes_none, zip_eq_contract, zip_eq_parts, zipped_equal}
-use Rattle.fallible_itertools_adapters.specs.ZipLongest.{longest, zipped_longest}
+use Rattle.fallible_itertools_adapters.specs.ZipLongest.{longest, longest_rule, zipped_longest}
 use Rattle.fallible_itertools_adapters.specs.Laws.SidesTraces.{SidesStep}
 use Rattle.fallible_itertools_adapters.specs.declared.zip_eq.ZipEq.{ZipEq}
 use Rattle.fallible_itertools_adapters.specs.declared.zip_longest.EitherOrBoth.{EitherOrBoth}
-use Rattle.fallible_itertools_adapters.proofs.Lemmas.Sides.{first_answer, rest_of, NoItemAfterEnd, ListsBy, gives_for_good_of_fresh, gives_for_good_sides, GivesAsMany, TakesAsMany, both_come, both_end, side_hint_above, side_hint_below}
+use Rattle.fallible_itertools_adapters.specs.declared.zip_longest.EitherOrBoth.TheVariants.{Left, Right}
+use Rattle.fallible_itertools_adapters.proofs.Lemmas.Sides.{Bounds, first_answer, rest_of, NoItemAfterEnd, ListsBy, as_sound_as_both_sides, gives_for_good_of_fresh, gives_for_good_sides, GivesAsMany, TakesAsMany}
 use Rattle.fallible_itertools_adapters.proofs.Lemmas.ZipLongest.{lists_by_longest}
 
 module _ {A B E : Type 0} (e : E) where
@@ -38,26 +39,33 @@ module _ {A B E : Type 0} (e : E) where
   paired_rest_is_rest_of_paired [] = refl
   paired_rest_is_rest_of_paired (y ∷ l) = refl
 
+  -- what joins the longest lists joins the pairs
+  abbrev Paired : List (Result (EitherOrBoth A B) E) → List (Result (EitherOrBoth A B) E) → Answered (EitherOrBoth A B) E → Answered (A × B) E → Type 0
+  Paired made rest r answer = (answer ≡ first_answer (map (pair_or e) made)) × (map (pair_or e) rest ≡ rest_of (map (pair_or e) made))
+
+  paired_where_first : (made rest : List (Result (EitherOrBoth A B) E)) (r : Answered (EitherOrBoth A B) E) (answer : Answered (A × B) E) → answer ≡ paired r → r ≡ first_answer made → rest ≡ rest_of made → Paired made rest r answer
+  paired_where_first made rest r answer is first others = (is ∙ ap paired first ∙ paired_first_is_first_of_paired made, ap (map (pair_or e)) others ∙ paired_rest_is_rest_of_paired made)
+
   module _ {F : Type 0} (call : F → Unit {0} → E → F → Type 0) (takes : F → Type 0) (f : F) (acts : Acts call f (λ _. e)) where
-    pair_answer_is_paired_longest : (g : F) (x : Option A) (y : Option B) (v : Option E) → AsksWhereAlone call f (one_is_alone x y) v g → (g ≡ f) × (pair_answer x y v ≡ paired (Ok (longest x y)))
-    pair_answer_is_paired_longest g (Some x) (Some y) (Some d) m = absurd m
-    pair_answer_is_paired_longest g (Some x) (Some y) None m = (m, refl)
-    pair_answer_is_paired_longest g (Some x) None (Some d) m = let w = acts tt d g m in (w.0, ap Err w.1)
-    pair_answer_is_paired_longest g (Some x) None None m = absurd m
-    pair_answer_is_paired_longest g None (Some y) (Some d) m = let w = acts tt d g m in (w.0, ap Err w.1)
-    pair_answer_is_paired_longest g None (Some y) None m = absurd m
-    pair_answer_is_paired_longest g None None (Some d) m = absurd m
-    pair_answer_is_paired_longest g None None None m = (m, refl)
+    abbrev by : ListsBy (longest_rule {A = A} {B = B} {E = E}) (λ k. k ≡ tt) zipped_longest
+    by = lists_by_longest
+
+    pairs_first : (a : List (Result A E)) (b : List (Result B E)) (x : Option A) (y : Option B) (v : Option E) (g : F) → Ok x ≡ first_answer a → Ok y ≡ first_answer b → AsksWhereAlone call f (one_is_alone x y) v g → (g ≡ f) × Paired (zipped_longest a b) (zipped_longest (rest_of a) (rest_of b)) (Ok (longest x y)) (pair_answer x y v)
+    pairs_first a b (Some x) (Some y) (Some d) g i j m = absurd m
+    pairs_first a b (Some x) (Some y) None g i j m = let w = by.both_give a b (Some x) (Some y) (Some (Ok tt)) tt tt refl i j refl in (m, paired_where_first _ _ _ _ refl w.1 w.2)
+    pairs_first a b (Some x) None (Some d) g i j m = let w = by.both_give a b (Some x) None None tt tt refl i j refl in let said = acts tt d g m in (said.0, paired_where_first _ _ (item (Left x)) _ (ap Err said.1) w.1 w.2)
+    pairs_first a b (Some x) None None g i j m = absurd m
+    pairs_first a b None (Some y) (Some d) g i j m = let w = by.both_give a b None (Some y) None tt tt refl i j refl in let said = acts tt d g m in (said.0, paired_where_first _ _ (item (Right y)) _ (ap Err said.1) w.1 w.2)
+    pairs_first a b None (Some y) None g i j m = absurd m
+    pairs_first a b None None (Some d) g i j m = absurd m
+    pairs_first a b None None None g i j m = let w = by.both_give a b None None None tt tt refl i j refl in (m, paired_where_first _ _ _ _ refl w.1 w.2)
 
     lists_by_pair : ListsBy (pair_rule {A = A} {B = B} call takes) (λ g. g ≡ f) (λ a b. zipped_equal e a b)
     unfolding zipped_equal
-    lists_by_pair = let by = lists_by_longest {A = A} {B = B} {E = E} in record {
-      left_fails = λ a b d is. let w = by.left_fails a b d is in (ap paired w.0 ∙ paired_first_is_first_of_paired (zipped_longest a b), ap (map (pair_or e)) w.1 ∙ paired_rest_is_rest_of_paired (zipped_longest a b));
-      right_fails = λ a b x d is fails. let w = by.right_fails a b x d is fails in (ap paired w.0 ∙ paired_first_is_first_of_paired (zipped_longest a b), ap (map (pair_or e)) w.1 ∙ paired_rest_is_rest_of_paired (zipped_longest a b));
-      both_give = λ a b x y v k g q i j d.
-          let w = by.both_give a b x y tt tt tt tt i j tt in
-          let said = pair_answer_is_paired_longest g x y v (subst (λ (h : F). AsksWhereAlone call h (one_is_alone x y) v g) q d) in
-          (said.0, said.1 ∙ ap paired w.1 ∙ paired_first_is_first_of_paired (zipped_longest a b), ap (map (pair_or e)) w.2 ∙ paired_rest_is_rest_of_paired (zipped_longest a b));
+    lists_by_pair = record {
+      left_fails = λ a b d is. let w = by.left_fails a b d is in paired_where_first _ _ _ _ refl w.0 w.1;
+      right_fails = λ a b x d is fails. let w = by.right_fails a b x d is fails in paired_where_first _ _ _ _ refl w.0 w.1;
+      both_give = λ a b x y v k g q i j d. let w = pairs_first a b x y v g i j (subst (λ (h : F). AsksWhereAlone call h (one_is_alone x y) v g) q d) in (w.0, w.1.0, w.1.1);
     }
 
 -- ---- hints
@@ -95,29 +103,15 @@ module _ {F A B E : Type 0} (call : F → Unit {0} → E → F → Type 0) (take
   gives_as_many_pair : GivesAsMany (pair_rule {A = A} {B = B} call takes) min
   gives_as_many_pair = record { item_given = λ f g x y v z i j d is. min_falls_by_one_at_most_at_pair x y v z i j is; end_given = λ f g x y v d is. end_of_both f g x y v d is; nothing = refl }
 
-module _ {S U F A B E : Type 0} (steps : S → Answered A E → S → Type 0) (others : U → Answered B E → U → Type 0) (call : F → Unit {0} → E → F → Type 0) (takes : F → Type 0) where
-  abbrev PairSteps : (S × Option A) × (U × Option B) × F → Answered (A × B) E → (S × Option A) × (U × Option B) × F → Type 0
-  PairSteps = SidesStep steps others (pair_rule call takes)
+pair_bounds : (h g k : ℕ × Option ℕ) → h ≡ hint_smaller g k → Bounds min min h g k
+pair_bounds h g k is = rw is (record { below = λ n i j few low also. omega (arith, few, low, also); above = λ n i j few high also. smaller_above g.1 k.1 i j n few high also })
 
-  pub as_sound_as_both_pair : NoItemAfterEnd steps → NoItemAfterEnd others → (p : (S × Option A) × (U × Option B) × F) (h g k : ℕ × Option ℕ) → h ≡ hint_smaller (side_hint p.0.1 g) (side_hint p.1.1 k) → AsSoundAsBoth PairSteps p h steps p.0.0 g others p.1.0 k
-  as_sound_as_both_pair once once_right p h g k is = rw is (record {
-    above = λ i j zs q ran.
-        let b = both_come steps others once once_right (pair_rule call takes) min (takes_as_many_pair call takes) (is_lawful_rule_pair call takes) zs p q ran in
-        let high = side_hint_above p.0.1 g b.of_left _ b.left.many (i b.left.came b.left.left b.left.ran) in
-        let also = side_hint_above p.1.1 k b.of_right _ b.right.many (j b.right.came b.right.left b.right.ran) in
-        smaller_above (side_hint p.0.1 g).1 (side_hint p.1.1 k).1 b.of_left b.of_right _ b.few high also;
-    below = λ i j zs q r ran w.
-        let b = both_end steps others (pair_rule call takes) min (gives_as_many_pair call takes) (is_lawful_rule_pair call takes) zs p q r ran w in
-        let low = side_hint_below p.0.1 g b.of_left _ (i b.left.came b.left.left b.left.last b.left.ran b.left.ended) b.left.few in
-        let also = side_hint_below p.1.1 k b.of_right _ (j b.right.came b.right.left b.right.last b.right.ran b.right.ended) b.right.few in
-        omega (arith, low, also, b.few);
-  })
+module _ {S U F A B E : Type 0} (steps : S → Answered A E → S → Type 0) (others : U → Answered B E → U → Type 0) (call : F → Unit {0} → E → F → Type 0) (takes : F → Type 0) where
+  pub as_sound_as_both_pair : NoItemAfterEnd steps → NoItemAfterEnd others → (p : (S × Option A) × (U × Option B) × F) (h g k : ℕ × Option ℕ) → h ≡ hint_smaller (side_hint p.0.1 g) (side_hint p.1.1 k) → AsSoundAsBoth (SidesStep steps others (pair_rule call takes)) p h steps p.0.0 g others p.1.0 k
+  as_sound_as_both_pair once once_right p h g k is = as_sound_as_both_sides steps others once once_right (pair_rule call takes) (is_lawful_rule_pair call takes) min min (gives_as_many_pair call takes) (takes_as_many_pair call takes) p h g k (pair_bounds h (side_hint p.0.1 g) (side_hint p.1.1 k) is)
 
 -- ---- what it lists
 
 module _ {S U F A B E : Type 0} (left : Contract S A E) (right : Contract U B E) (g : Mut F (Unit {0}) E) (c : ZipEq S U F A E) {p : Fuse S} {q : Fuse U} (s : S) (u : U) (f : F) (e : E) (a : List (Result A E)) (b : List (Result B E)) where
   pub lists_for_good_zipped_equal : zip_eq_parts {B = B} c ≡ ((p, None), (q, None), f) → fuse_parts p ≡ (s, false) → fuse_parts q ≡ (u, false) → Acts (call_of_none g) f (λ _. e) → Lists left.steps s a → Lists right.steps u b → ListsForGood (seen_as zip_eq_parts (zip_eq_contract left right g)).steps c (zipped_equal e a b)
   lists_for_good_zipped_equal parts fresh also acts i k = lists_for_good_seen zip_eq_parts (zip_eq_contract left right g).steps c parts refl (gives_for_good_sides (fused_steps left.steps) (fused_steps right.steps) (pair_rule (call_of_none g) (takes_none g)) (λ k. k ≡ f) (λ a b. zipped_equal e a b) (lists_by_pair e (call_of_none g) (takes_none g) f acts) (is_lawful_rule_pair (call_of_none g) (takes_none g)) ((p, None), (q, None), f) a b (gives_for_good_of_fresh left p s a fresh i) (gives_for_good_of_fresh right q u b also k) refl)
-
-  pub lists_zipped_equal : zip_eq_parts {B = B} c ≡ ((p, None), (q, None), f) → fuse_parts p ≡ (s, false) → fuse_parts q ≡ (u, false) → Acts (call_of_none g) f (λ _. e) → Lists left.steps s a → Lists right.steps u b → Lists (seen_as zip_eq_parts (zip_eq_contract left right g)).steps c (zipped_equal e a b)
-  lists_zipped_equal parts fresh also acts i k = lists_once _ (lists_for_good_zipped_equal parts fresh also acts i k)

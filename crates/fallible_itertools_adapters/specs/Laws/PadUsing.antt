@@ -11,10 +11,10 @@ use Rattle.fallible_iterator.specs.Laws.Passing.{lawful_passing}
 use Rattle.fallible_iterator.specs.OneToOne.Map.{map_outcome}
 use Rattle.fallible_itertools_adapters.specs.Laws.OverTraces.{InverseWhere, lawful_parts_where}
 use Rattle.fallible_itertools_adapters.specs.Laws.Sides.{lawful_fused, lawful_sides}
-use Rattle.fallible_itertools_adapters.specs.Laws.ZipLongest.{is_lawful_rule_longest}
+use Rattle.fallible_itertools_adapters.specs.Laws.ZipLongest.{is_lawful_rule_longest, left_not_held, right_not_held}
 use Rattle.fallible_itertools_adapters.specs.PadUsing.{BothFree, IndexTrace, beside_index_contract, both_sides, from_index, index_contract, index_step, pad_call, pad_takes, pad_using_contract}
 use Rattle.fallible_itertools_adapters.specs.Sides.{GivesIf, SidesPlace, left_failed, right_failed, both_gave, right_gave, left_held_after, right_held_after, fused_contract, sides_step}
-use Rattle.fallible_itertools_adapters.specs.ZipLongest.{longest_rule, zip_longest_hints}
+use Rattle.fallible_itertools_adapters.specs.ZipLongest.{hint_greater, longest_rule}
 use Rattle.fallible_itertools_adapters.specs.declared.zip_longest.EitherOrBoth.{EitherOrBoth}
 
 module _ (E : Type 0) where
@@ -77,13 +77,13 @@ module _ {S A : Type 0} where
 
 module _ {S A E : Type 0} (steps : S → Answered A E → S → Type 0) where
   -- at a place nothing is held again, since the indices don't fail
-  free_after_place : (x : SidesPlace A ℕ E (Unit {0})) (p q : ℕ × ℕ) (h i : Option A) (k j : Option ℕ) → h ≡ None → k ≡ None → i ≡ left_held_after longest_rule h x → j ≡ right_held_after longest_rule k x → GivesIf index_step (p, k) (right_gave x) q → (i ≡ None) × (j ≡ None)
+  free_after_place : (x : SidesPlace A ℕ E (Option (Result (Unit {0}) E))) (p q : ℕ × ℕ) (h i : Option A) (k j : Option ℕ) → h ≡ None → k ≡ None → i ≡ left_held_after longest_rule h x → j ≡ right_held_after longest_rule k x → GivesIf index_step (p, k) (right_gave x) q → (i ≡ None) × (j ≡ None)
   free_after_place (left_failed e) p q h i k j left right is also g = (is, also ∙ right)
   free_after_place (right_failed y e) p q h i k j left right is also g = absurd (subst (λ (z : Option ℕ). GivesIf index_step (p, z) (Some (failure e)) q) right g)
-  free_after_place (both_gave y z v) p q h i k j left right is also g = (is, also)
+  free_after_place (both_gave y z v) p q h i k j left right is also g = (is ∙ left_not_held y v, also ∙ right_not_held z v)
 
   both_stay_free : (p : (S × Option A) × ((ℕ × ℕ) × Option ℕ) × Unit {0}) (r : Answered (EitherOrBoth A ℕ) E) (q : (S × Option A) × ((ℕ × ℕ) × Option ℕ) × Unit {0}) → BothFree p → sides_step steps index_step longest_rule p r q → BothFree q
   both_stay_free p r q free w = free_after_place w.0 p.1.0 q.1.0 p.0.1 q.0.1 p.1.1 q.1.1 free.0 free.1 w.2 w.4 w.3
 
 pub lawful_pad_using : {S F A E : Type 0} {m : Contract S A E} (g : Mut F (ℕ × Unit {0}) (Result A E)) → Lawful m → Lawful (pad_using_contract m g)
-lawful_pad_using {m = m} g l = lawful_passing (pad_call g) (λ P f. IsCallable (pad_call g) (pad_takes g) P f) map_outcome (λ p h. (beside_index_contract m).hints p.0 h) (λ P Q f h weak reached c. is_callable_after weak reached c) (lawful_parts_where both_sides_made (both_stay_free (fused_contract m).steps) (lawful_sides (fused_contract m) index_contract longest_rule (zip_longest_hints (fused_contract m) index_contract) (lawful_fused l) lawful_index is_lawful_rule_longest))
+lawful_pad_using {m = m} g l = lawful_passing (pad_call g) (λ P f. IsCallable (pad_call g) (pad_takes g) P f) map_outcome (λ p h. (beside_index_contract m).hints p.0 h) (λ P Q f h weak reached c. is_callable_after weak reached c) (lawful_parts_where both_sides_made (both_stay_free (fused_contract m).steps) (lawful_sides (fused_contract m) index_contract longest_rule hint_greater (lawful_fused l) lawful_index is_lawful_rule_longest))

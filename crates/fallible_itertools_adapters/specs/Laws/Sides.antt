@@ -1,16 +1,21 @@
 -- What joins two sources, and holds at most one item of each, is lawful where both are and its rule is.
-use Rattle.std.specs.Prelude.{ℕ, ◌+◌, ◌-◌, ◌≤◌, Option, Some, None, ◌≡◌, Ok, Err, ◌⊎◌, ⊤}
+use Rattle.std.specs.Prelude.{ℕ, ◌+◌, ◌-◌, ◌≤◌, Bool, true, false, cond, Option, Some, None, ◌≡◌, Ok, Err, Result, ◌⊎◌, ⊤}
 use Rattle.std.specs.Iterator.{IsFinite, size}
 use Rattle.std.proofs.Common.{refl, sym, subst, ap₂, arith, inl, inr}
+use Rattle.std.specs.declared.cmp.Ordering.{Ordering}
+use Rattle.std.specs.declared.cmp.Ordering.TheVariants.{Less, Equal, Greater}
 use Rattle.fallible_iterator.specs.Traces.{Answered, item, failure, end}
 use Rattle.fallible_iterator.specs.Contract.{Contract, OnAnswer, KeptByDraw, Lawful, lenders_of_both}
 use Rattle.fallible_iterator.specs.Cutting.Fuse.{fuse_made}
 use Rattle.fallible_iterator.specs.Held.{held_count}
+use Rattle.fallible_iterator.specs.Laws.Closures.{reaches_reflexive, reaches_by_call_first, is_callable_after, may_answer_of_call, may_answer_where_reached_may_answer}
 use Rattle.fallible_iterator.specs.Laws.Contract.{lawful_parts}
 use Rattle.fallible_iterator.specs.Laws.Cutting.Fuse.{lawful_fuse}
 use Rattle.fallible_itertools_adapters.specs.Laws.SidesTraces.{sides_traced}
-use Rattle.fallible_itertools_adapters.specs.Sides.{fused_contract, GivesHeldFirst, GivesIf, side_remaining, side_gives, Rule, SidesPlace, left_failed, right_failed, both_gave, left_gave, right_gave, left_held_after, right_held_after, place_answer, place_decides, sides_contract}
+use Rattle.fallible_itertools_adapters.specs.Sides.{AsksOfTwo, Join, OfEach, by_ordering, join_answer, join_by, join_rule, left_first, right_first, taken, two_items, fused_contract, GivesHeldFirst, GivesIf, side_remaining, side_gives, Rule, SidesPlace, left_failed, right_failed, both_gave, left_gave, right_gave, left_held_after, right_held_after, place_answer, place_decides, sides_contract}
 use Rattle.fallible_iterator.specs.Laws.Joining.Chain.{both_true_where_cond_true, cond_true_where_both_true}
+use Rattle.fallible_itertools_adapters.specs.declared.zip_longest.EitherOrBoth.{EitherOrBoth}
+use Rattle.fallible_itertools_adapters.specs.declared.zip_longest.EitherOrBoth.TheVariants.{Both, Left, Right}
 
 -- ---- a fused source
 
@@ -114,12 +119,12 @@ module _ {A B C E F V : Type 0} (rule : Rule A B C E F V) where
     pub refuses_more : (P P' : A → Type 0) (Q Q' : B → Type 0) (f : F) (e : E) → ((z : A) → P' z → P z) → ((z : B) → Q' z → Q z) → rule.refuses P' Q' f e → rule.refuses P Q f e
     pub refuses_before : {P P' : A → Type 0} {Q Q' : B → Type 0} {f g : F} {x : Option A} {y : Option B} {v : V} → IsDecidedByRule P P' Q Q' f x y v g → (e : E) → rule.refuses P' Q' g e → rule.refuses P Q f e
 
-module _ {S U A B C E F V : Type 0} (left : Contract S A E) (right : Contract U B E) (rule : Rule A B C E F V) (hints : (S × Option A) × (U × Option B) × F → ℕ × Option ℕ → Type 0) where
+module _ {S U A B C E F V : Type 0} (left : Contract S A E) (right : Contract U B E) (rule : Rule A B C E F V) (hint : ℕ × Option ℕ → ℕ × Option ℕ → ℕ × Option ℕ) where
   abbrev SidesState : Type 0
   SidesState = (S × Option A) × (U × Option B) × F
 
   abbrev SidesHere : Contract SidesState C E
-  SidesHere = sides_contract left right rule hints
+  SidesHere = sides_contract left right rule hint
 
   -- an item consumes one item at least, and a failure an item or a failure
   abbrev OwedFor : SidesState → Answered C E → ℕ → ℕ → Type 0
@@ -192,3 +197,85 @@ module _ {S U A B C E F V : Type 0} (left : Contract S A E) (right : Contract U 
       );
       traced = sides_traced l.traced m.traced rule;
     }
+
+-- ---- a join
+
+pub of_each_where_each_implies : {A B : Type 0} (P P' : A → Type 0) (Q Q' : B → Type 0) (z : EitherOrBoth A B) → ((x : A) → P' x → P x) → ((y : B) → Q' y → Q y) → OfEach P' Q' z → OfEach P Q z
+of_each_where_each_implies P P' Q Q' (Both x y) p q h = (p x h.0, q y h.1)
+of_each_where_each_implies P P' Q Q' (Left x) p q h = p x h
+of_each_where_each_implies P P' Q Q' (Right y) p q h = q y h
+
+-- what is held is all or nothing
+held_is_none_or_item : {A : Type 0} (b : Bool) (x : Option A) → (cond b x None ≡ None) ⊎ (cond b x None ≡ x)
+held_is_none_or_item true x = inr refl
+held_is_none_or_item false x = inl refl
+
+module _ {A B : Type 0} (P : A → Type 0) (Q : B → Type 0) (x : A) (y : B) where
+  of_each_of_taken : (o : Ordering) → P x → Q y → OfEach P Q (taken x y o)
+  of_each_of_taken Less p q = p
+  of_each_of_taken Equal p q = (p, q)
+  of_each_of_taken Greater p q = q
+
+  one_taken_at_least : (o : Ordering) → 1 ≤ (1 - held_count (cond (by_ordering false false true o) (Some x) None)) + (1 - held_count (cond (by_ordering true false false o) (Some y) None))
+  one_taken_at_least Less = omega arith
+  one_taken_at_least Equal = omega arith
+  one_taken_at_least Greater = omega arith
+
+module _ {A B C E F K : Type 0} (j : Join A B C E F K) where
+  -- f may be asked where g may, and what g may fail with f may fail with
+  abbrev AsAskable : (A → Type 0) → (B → Type 0) → F → F → Type 0
+  AsAskable P Q f g = (j.askable P Q f → j.askable P Q g) × ((e : E) → j.refuses P Q g e → j.refuses P Q f e)
+
+  -- What the join says of its closure stays so as that is asked and less may come, and what is made is what may come.
+  pub record IsLawfulJoin : Type 1 where
+    pub askable_less : (P P' : A → Type 0) (Q Q' : B → Type 0) (f : F) → ((z : A) → P' z → P z) → ((z : B) → Q' z → Q z) → j.askable P Q f → j.askable P' Q' f
+    pub refuses_more : (P P' : A → Type 0) (Q Q' : B → Type 0) (f : F) (e : E) → ((z : A) → P' z → P z) → ((z : B) → Q' z → Q z) → j.refuses P' Q' f e → j.refuses P Q f e
+    pub gives_more : (P P' : A → Type 0) (Q Q' : B → Type 0) (z : C) → ((z : A) → P' z → P z) → ((z : B) → Q' z → Q z) → j.gives P' Q' z → j.gives P Q z
+    pub gives_made : (P : A → Type 0) (Q : B → Type 0) (t : EitherOrBoth A B) → OfEach P Q t → j.gives P Q (j.makes t)
+    pub after_said : (P : A → Type 0) (Q : B → Type 0) (f g : F) (x : A) (y : B) (v : Result K E) → P x → Q y → j.says f x y v g → AsAskable P Q f g
+    pub refuses_said : (P : A → Type 0) (Q : B → Type 0) (f g : F) (x : A) (y : B) (e : E) → P x → Q y → j.says f x y (Err e) g → j.refuses P Q f e
+
+  module _ (w : IsLawfulJoin) (P : A → Type 0) (Q : B → Type 0) where
+    as_askable_where_same : (f g : F) → g ≡ f → AsAskable P Q f g
+    as_askable_where_same f g same = subst (λ (k : F). AsAskable P Q f k) (sym same) ((λ h. h), (λ e h. h))
+
+    after_asked : (f g : F) (x : Option A) (y : Option B) (v : Option (Result K E)) → OfItem P x → OfItem Q y → AsksOfTwo j.says f (two_items x y) v g → AsAskable P Q f g
+    after_asked f g (Some x) (Some y) (Some v) p q d = w.after_said P Q f g x y v p q d
+    after_asked f g (Some x) (Some y) None p q d = absurd d
+    after_asked f g (Some x) None (Some v) p q d = absurd d
+    after_asked f g (Some x) None None p q d = as_askable_where_same f g d
+    after_asked f g None y (Some v) p q d = absurd d
+    after_asked f g None y None p q d = as_askable_where_same f g d
+
+    made_by_join : (f : F) (x : Option A) (y : Option B) (v : Option (Result K E)) (g : F) → OfItem P x → OfItem Q y → AsksOfTwo j.says f (two_items x y) v g → MadeBy (join_rule j) P Q f ((held_count x - held_count (cond (right_first j.order v) x None)) + (held_count y - held_count (cond (left_first j.order v) y None))) (join_answer j.order j.makes x y v)
+    made_by_join f (Some x) (Some y) (Some (Ok k)) g p q d = (w.gives_made P Q (taken x y (j.order k)) (of_each_of_taken P Q x y (j.order k) p q), one_taken_at_least P Q x y (j.order k))
+    made_by_join f (Some x) (Some y) (Some (Err e)) g p q d = (w.refuses_said P Q f g x y e p q d, omega arith)
+    made_by_join f (Some x) (Some y) None g p q d = absurd d
+    made_by_join f (Some x) None (Some v) g p q d = absurd d
+    made_by_join f (Some x) None None g p q d = (w.gives_made P Q (Left x) p, omega arith)
+    made_by_join f None (Some y) (Some v) g p q d = absurd d
+    made_by_join f None (Some y) None g p q d = (w.gives_made P Q (Right y) q, omega arith)
+    made_by_join f None None v g p q d = tt
+
+  pub is_lawful_rule_join : IsLawfulJoin → IsLawfulRule (join_rule j)
+  is_lawful_rule_join w = record {
+    left_held_is_none_or_given = λ x y v. held_is_none_or_item (right_first j.order v) x;
+    right_held_is_none_or_given = λ x y v. held_is_none_or_item (left_first j.order v) y;
+    made = made_by_join w;
+    askable_less = w.askable_less;
+    askable_after = λ {P} {P'} {Q} {Q'} {f} {g} {x} {y} {v} c h. w.askable_less P P' Q Q' g c.left_less c.right_less ((after_asked w P Q f g x y v c.left_allowed c.right_allowed c.decided).0 h);
+    gives_more = w.gives_more;
+    refuses_more = w.refuses_more;
+    refuses_before = λ {P} {P'} {Q} {Q'} {f} {g} {x} {y} {v} c e h. (after_asked w P Q f g x y v c.left_allowed c.right_allowed c.decided).1 e (w.refuses_more P P' Q Q' g e c.left_less c.right_less h);
+  }
+
+-- by a closure
+pub is_lawful_join_by : {A B C E F K : Type 0} (call : F → A → B → Result K E → F → Type 0) (takes : F → A → B → Type 0) (order : K → Ordering) (makes : EitherOrBoth A B → C) (gives : (A → Type 0) → (B → Type 0) → C → Type 0) → ((P P' : A → Type 0) (Q Q' : B → Type 0) (z : C) → ((z : A) → P' z → P z) → ((z : B) → Q' z → Q z) → gives P' Q' z → gives P Q z) → ((P : A → Type 0) (Q : B → Type 0) (t : EitherOrBoth A B) → OfEach P Q t → gives P Q (makes t)) → IsLawfulJoin (join_by call takes order makes gives)
+is_lawful_join_by call takes order makes gives more made = record {
+  askable_less = λ P P' Q Q' f p q h. is_callable_after (λ z w. (p z.0 w.0, q z.1 w.1)) reaches_reflexive h;
+  refuses_more = λ P P' Q Q' f e p q h. may_answer_where_reached_may_answer (λ z w. (p z.0 w.0, q z.1 w.1)) reaches_reflexive h;
+  gives_more = more;
+  gives_made = made;
+  after_said = λ P Q f g x y v p q d. ((λ h. is_callable_after (λ z w. w) (reaches_by_call_first (x, y) v (p, q) d reaches_reflexive) h), (λ e h. may_answer_where_reached_may_answer (λ z w. w) (reaches_by_call_first (x, y) v (p, q) d reaches_reflexive) h));
+  refuses_said = λ P Q f g x y e p q d. may_answer_of_call g (x, y) (Err e) (p, q) d refl;
+}

@@ -3,6 +3,7 @@ use Rattle.std.specs.Prelude.{◌≡◌, ◌+◌, ◌-◌, Bool, true, false, Op
 use Rattle.std.specs.Fn.{Mut}
 use Rattle.std.proofs.Common.{refl, sym, subst, arith, inl}
 use Rattle.fallible_iterator.specs.Closures.{Reaches}
+use Rattle.fallible_iterator.specs.Hints.{hint_smaller}
 use Rattle.fallible_iterator.specs.Contract.{Contract, Lawful, parts_as}
 use Rattle.fallible_iterator.specs.Held.{held_count}
 use Rattle.fallible_iterator.specs.Laws.Closures.{reaches_reflexive, reaches_by_call_first, is_callable_after, may_answer_of_call, may_answer_where_reached_may_answer}
@@ -12,7 +13,7 @@ use Rattle.fallible_itertools_adapters.specs.Laws.Sides.{OfItem, MadeBy, IsLawfu
 use Rattle.fallible_itertools_adapters.specs.Laws.OverTraces.{InverseWhere, lawful_parts_where}
 use Rattle.fallible_itertools_adapters.specs.Laws.SidesTraces.{right_stays_free}
 use Rattle.fallible_itertools_adapters.specs.Sides.{RightFree, fused_contract}
-use Rattle.fallible_itertools_adapters.specs.ZipEq.{AsksWhereAlone, one_is_alone, pair_answer, pair_rule, takes_none, zip_eq_contract, zip_eq_hints, zip_eq_parts}
+use Rattle.fallible_itertools_adapters.specs.ZipEq.{AsksWhereAlone, one_is_alone, pair_answer, pair_rule, takes_none, zip_eq_contract, zip_eq_parts}
 use Rattle.fallible_itertools_adapters.specs.declared.zip_eq.ZipEq.{ZipEq}
 
 module _ {F E : Type 0} (call : F → Unit {0} → E → F → Type 0) where
@@ -45,7 +46,7 @@ module _ {F A B E : Type 0} (call : F → Unit {0} → E → F → Type 0) (take
   }
 
 pub lawful_zip_eq : {S U F A B E : Type 0} {left : Contract S A E} {right : Contract U B E} (g : Mut F (Unit {0}) E) → Lawful left → Lawful right → Lawful (zip_eq_contract left right g)
-lawful_zip_eq {left = left} {right = right} g l k = lawful_sides (fused_contract left) (fused_contract right) (pair_rule (call_of_none g) (takes_none g)) (zip_eq_hints (fused_contract left) (fused_contract right)) (lawful_fused l) (lawful_fused k) (is_lawful_rule_pair (call_of_none g) (takes_none g))
+lawful_zip_eq {left = left} {right = right} g l k = lawful_sides (fused_contract left) (fused_contract right) (pair_rule (call_of_none g) (takes_none g)) hint_smaller (lawful_fused l) (lawful_fused k) (is_lawful_rule_pair (call_of_none g) (takes_none g))
 
 -- ---- the values are the parts of which nothing is held of the right
 

@@ -1,44 +1,40 @@
 -- The contract of `ZipLongest` is lawful where those of both sides are.
-use Rattle.std.specs.Prelude.{◌≡◌, ◌+◌, ◌-◌, Option, Some, None, Ok}
-use Rattle.std.proofs.Common.{refl, arith, inl}
+use Rattle.std.specs.Prelude.{◌≡◌, cond, Option, Some, None, Ok, Err, Result}
+use Rattle.std.specs.declared.cmp.Ordering.TheVariants.{Equal}
+use Rattle.std.proofs.Common.{refl}
 use Rattle.fallible_iterator.specs.Contract.{Contract, Lawful, parts_as}
-use Rattle.fallible_iterator.specs.Held.{held_count}
 use Rattle.fallible_iterator.specs.Fuse.{Fuse}
-use Rattle.fallible_itertools_adapters.specs.Laws.Sides.{OfItem, MadeBy, IsLawfulRule, lawful_fused, lawful_sides}
+use Rattle.fallible_itertools_adapters.specs.Laws.Sides.{IsLawfulRule, is_lawful_rule_join, lawful_fused, lawful_sides, of_each_where_each_implies}
 use Rattle.fallible_itertools_adapters.specs.Laws.OverTraces.{InverseWhere, lawful_parts_where}
 use Rattle.fallible_itertools_adapters.specs.Laws.SidesTraces.{right_stays_free}
-use Rattle.fallible_itertools_adapters.specs.Sides.{RightFree, fused_contract}
-use Rattle.fallible_itertools_adapters.specs.ZipLongest.{OfEach, longest, longest_rule, zip_longest_hints, zip_longest_contract, zip_longest_parts}
-use Rattle.fallible_itertools_adapters.specs.declared.zip_longest.EitherOrBoth.{EitherOrBoth}
-use Rattle.fallible_itertools_adapters.specs.declared.zip_longest.EitherOrBoth.TheVariants.{Both, Left, Right}
+use Rattle.fallible_itertools_adapters.specs.Sides.{RightFree, fused_contract, left_first, right_first}
+use Rattle.fallible_itertools_adapters.specs.ZipLongest.{longest_join, longest_rule, hint_greater, zip_longest_contract, zip_longest_parts}
 use Rattle.fallible_itertools_adapters.specs.declared.zip_longest.ZipLongest.{ZipLongest}
 
-pub of_each_where_each_implies : {A B : Type 0} (P P' : A → Type 0) (Q Q' : B → Type 0) (z : EitherOrBoth A B) → ((x : A) → P' x → P x) → ((y : B) → Q' y → Q y) → OfEach P' Q' z → OfEach P Q z
-of_each_where_each_implies P P' Q Q' (Both x y) p q h = (p x h.0, q y h.1)
-of_each_where_each_implies P P' Q Q' (Left x) p q h = p x h
-of_each_where_each_implies P P' Q Q' (Right y) p q h = q y h
+-- nothing is held of a side whose item is always taken
+pub left_not_held : {A E : Type 0} (x : Option A) (v : Option (Result (Unit {0}) E)) → cond (right_first (λ k. Equal) v) x None ≡ None
+left_not_held x (Some (Ok k)) = refl
+left_not_held x (Some (Err e)) = refl
+left_not_held x None = refl
 
-made_by_longest_rule : {A B : Type 0} (E : Type 0) (P : A → Type 0) (Q : B → Type 0) (x : Option A) (y : Option B) → OfItem P x → OfItem Q y → MadeBy (longest_rule {A = A} {B = B} {E = E}) P Q tt ((held_count x - 0) + (held_count y - 0)) (Ok (longest x y))
-made_by_longest_rule E P Q (Some x) (Some y) p q = ((p, q), omega arith)
-made_by_longest_rule E P Q (Some x) None p q = (p, omega arith)
-made_by_longest_rule E P Q None (Some y) p q = (q, omega arith)
-made_by_longest_rule E P Q None None p q = tt
+pub right_not_held : {B E : Type 0} (y : Option B) (v : Option (Result (Unit {0}) E)) → cond (left_first (λ k. Equal) v) y None ≡ None
+right_not_held y (Some (Ok k)) = refl
+right_not_held y (Some (Err e)) = refl
+right_not_held y None = refl
 
 module _ {A B E : Type 0} where
   pub is_lawful_rule_longest : IsLawfulRule (longest_rule {A = A} {B = B} {E = E})
-  is_lawful_rule_longest = record {
-    left_held_is_none_or_given = λ x y v. inl refl;
-    right_held_is_none_or_given = λ x y v. inl refl;
-    made = λ P Q f x y v g p q d. made_by_longest_rule E P Q x y p q;
+  is_lawful_rule_longest = is_lawful_rule_join longest_join (record {
     askable_less = λ P P' Q Q' f p q h. tt;
-    askable_after = λ c h. tt;
-    gives_more = of_each_where_each_implies;
     refuses_more = λ P P' Q Q' f e p q h. h;
-    refuses_before = λ c e h. h;
-  }
+    gives_more = of_each_where_each_implies;
+    gives_made = λ P Q t h. h;
+    after_said = λ P Q f g x y v p q d. ((λ h. tt), (λ e h. h));
+    refuses_said = λ P Q f g x y e p q d. absurd cc;
+  })
 
 pub lawful_zip_longest : {S U A B E : Type 0} {left : Contract S A E} {right : Contract U B E} → Lawful left → Lawful right → Lawful (zip_longest_contract left right)
-lawful_zip_longest {left = left} {right = right} l k = lawful_sides (fused_contract left) (fused_contract right) longest_rule (zip_longest_hints (fused_contract left) (fused_contract right)) (lawful_fused l) (lawful_fused k) is_lawful_rule_longest
+lawful_zip_longest {left = left} {right = right} l k = lawful_sides (fused_contract left) (fused_contract right) longest_rule hint_greater (lawful_fused l) (lawful_fused k) is_lawful_rule_longest
 
 -- ---- the values are the parts of which nothing is held of the right
 
@@ -53,4 +49,4 @@ pub zip_longest_made : {T U A E B : Type 0} → InverseWhere (zip_longest_parts 
 zip_longest_made {E = E} = record { make = of_parts E; made = λ s. refl; has = parts_of_made E; holds = λ s. refl }
 
 pub lawful_zip_longest_parts : {S U A B E : Type 0} {left : Contract S A E} {right : Contract U B E} → Lawful left → Lawful right → Lawful (parts_as (zip_longest_parts {A = A} {E = E}) (zip_longest_contract left right))
-lawful_zip_longest_parts {left = left} {right = right} l k = lawful_parts_where zip_longest_made (right_stays_free (fused_contract left).steps (fused_contract right).steps longest_rule (λ x y v. refl)) (lawful_zip_longest l k)
+lawful_zip_longest_parts {left = left} {right = right} l k = lawful_parts_where zip_longest_made (right_stays_free (fused_contract left).steps (fused_contract right).steps longest_rule (λ x y v. right_not_held y v)) (lawful_zip_longest l k)

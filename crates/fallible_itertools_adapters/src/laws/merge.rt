@@ -7,7 +7,8 @@ ghost use Rattle.fallible_iterator.specs.BothEnds.{items_listed};
 ghost use Rattle.fallible_iterator.specs.Comparing.{reads_le, reads_lt};
 ghost use Rattle.fallible_iterator.specs.Lists.{items};
 ghost use Rattle.fallible_iterator.specs.SoundHints.{HintsAsSoundAsBoth};
-ghost use Rattle.fallible_itertools_adapters.specs.Merge.{merge_left_fused, merge_right_fused, merged_in_order};
+ghost use Rattle.fallible_itertools_adapters.specs.Merge.{merge_parts, merged_in_order};
+ghost use Rattle.fallible_itertools_adapters.specs.Sides.{left_fused, right_fused};
 
 use crate::merge::Merge;
 use fallible_iterator::{FallibleIterator, Fuse};
@@ -18,8 +19,8 @@ where
     T::Item: PartialOrd + Drop,
     ensures { (s : Merge T U T.Item T.Error)
         → HintsAsSoundAsBoth ⟦<Merge<T, U> as FallibleIterator>⟧.contract s
-        ⟦<Fuse<T> as FallibleIterator>⟧.contract (merge_left_fused s)
-        ⟦<Fuse<U> as FallibleIterator>⟧.contract (merge_right_fused s) }
+        ⟦<Fuse<T> as FallibleIterator>⟧.contract (left_fused (merge_parts s))
+        ⟦<Fuse<U> as FallibleIterator>⟧.contract (right_fused (merge_parts s)) }
 {}
 
 /// Two sorted lists make a sorted list, where the order is one in which any two items compare. Of equal items those of the first list come first, and those of one list in their order.

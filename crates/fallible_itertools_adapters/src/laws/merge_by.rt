@@ -7,7 +7,8 @@ ghost use Rattle.fallible_iterator.specs.SoundHints.{HintsAsSoundAsBoth};
 ghost use Rattle.fallible_iterator.specs.Lists.{items};
 ghost use Rattle.fallible_iterator.specs.Interleaved.{Interleaved};
 ghost use Rattle.fallible_itertools_adapters.specs.Adjacent.{AdjacentItems, LetsLessFirst};
-ghost use Rattle.fallible_itertools_adapters.specs.MergeBy.{merged, merge_by_left_fused, merge_by_right_fused};
+ghost use Rattle.fallible_itertools_adapters.specs.MergeBy.{merge_by_parts, merged};
+ghost use Rattle.fallible_itertools_adapters.specs.Sides.{left_fused, right_fused};
 
 use crate::merge_by::MergeBy;
 use fallible_iterator::{FallibleIterator, Fuse};
@@ -45,6 +46,6 @@ where
     T::Item: Drop,
     ensures { (s : MergeBy T U F T.Item T.Error)
         → HintsAsSoundAsBoth ⟦<MergeBy<T, U, F> as FallibleIterator>⟧.contract s
-        ⟦<Fuse<T> as FallibleIterator>⟧.contract (merge_by_left_fused s)
-        ⟦<Fuse<U> as FallibleIterator>⟧.contract (merge_by_right_fused s) }
+        ⟦<Fuse<T> as FallibleIterator>⟧.contract (left_fused (merge_by_parts s))
+        ⟦<Fuse<U> as FallibleIterator>⟧.contract (right_fused (merge_by_parts s)) }
 {}

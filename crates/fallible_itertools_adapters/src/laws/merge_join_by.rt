@@ -5,7 +5,8 @@ ghost use Rattle.std.specs.declared.cmp.Ordering.{Ordering};
 ghost use Rattle.fallible_iterator.specs.BothEnds.{failures_listed, items_listed};
 ghost use Rattle.fallible_iterator.specs.SoundHints.{HintsAsSoundAsBoth};
 ghost use Rattle.fallible_itertools_adapters.specs.Adjacent.{AdjacentItems};
-ghost use Rattle.fallible_itertools_adapters.specs.MergeJoinBy.{JoinsByKeys, PairsEqual, key_of_either, merge_join_by_left_fused, merge_join_by_right_fused, merge_joined};
+ghost use Rattle.fallible_itertools_adapters.specs.MergeJoinBy.{JoinsByKeys, PairsEqual, key_of_either, merge_join_by_parts, merge_joined};
+ghost use Rattle.fallible_itertools_adapters.specs.Sides.{left_fused, right_fused};
 ghost use Rattle.fallible_itertools_adapters.specs.ZipLongest.{left_of, right_of};
 
 use crate::merge_join_by::MergeJoinBy;
@@ -45,6 +46,6 @@ where
     U::Item: Drop,
     ensures { (s : MergeJoinBy T U F T.Item T.Error U.Item)
         → HintsAsSoundAsBoth ⟦<MergeJoinBy<T, U, F> as FallibleIterator>⟧.contract s
-        ⟦<Fuse<T> as FallibleIterator>⟧.contract (merge_join_by_left_fused s)
-        ⟦<Fuse<U> as FallibleIterator>⟧.contract (merge_join_by_right_fused s) }
+        ⟦<Fuse<T> as FallibleIterator>⟧.contract (left_fused (merge_join_by_parts s))
+        ⟦<Fuse<U> as FallibleIterator>⟧.contract (right_fused (merge_join_by_parts s)) }
 {}

@@ -1,6 +1,7 @@
 // The laws of `ZipEq`.
 ghost use Rattle.fallible_iterator.specs.SoundHints.{HintsAsSoundAsBoth};
-ghost use Rattle.fallible_itertools_adapters.specs.ZipEq.{zip_eq_left_fused, zip_eq_right_fused};
+ghost use Rattle.fallible_itertools_adapters.specs.ZipEq.{zip_eq_parts};
+ghost use Rattle.fallible_itertools_adapters.specs.Sides.{left_fused, right_fused};
 
 use crate::zip_eq::ZipEq;
 use fallible_iterator::{FallibleIterator, Fuse};
@@ -16,6 +17,6 @@ where
     U::Item: Drop,
     ensures { (s : ZipEq T U F T.Item T.Error)
         → HintsAsSoundAsBoth ⟦<ZipEq<T, U, F> as FallibleIterator>⟧.contract s
-        ⟦<Fuse<T> as FallibleIterator>⟧.contract (zip_eq_left_fused s)
-        ⟦<Fuse<U> as FallibleIterator>⟧.contract (zip_eq_right_fused s) }
+        ⟦<Fuse<T> as FallibleIterator>⟧.contract (left_fused (zip_eq_parts {B = U.Item} s))
+        ⟦<Fuse<U> as FallibleIterator>⟧.contract (right_fused (zip_eq_parts {B = U.Item} s)) }
 {}

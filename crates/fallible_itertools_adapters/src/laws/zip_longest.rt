@@ -1,6 +1,7 @@
 // The laws of `ZipLongest`.
 ghost use Rattle.fallible_iterator.specs.SoundHints.{HintsAsSoundAsBoth};
-ghost use Rattle.fallible_itertools_adapters.specs.ZipLongest.{zip_longest_left_fused, zip_longest_right_fused};
+ghost use Rattle.fallible_itertools_adapters.specs.ZipLongest.{zip_longest_parts};
+ghost use Rattle.fallible_itertools_adapters.specs.Sides.{left_fused, right_fused};
 
 use crate::zip_longest::ZipLongest;
 use fallible_iterator::{FallibleIterator, Fuse};
@@ -12,6 +13,6 @@ where
     U::Item: Drop,
     ensures { (s : ZipLongest T U T.Item T.Error)
         → HintsAsSoundAsBoth ⟦<ZipLongest<T, U> as FallibleIterator>⟧.contract s
-        ⟦<Fuse<T> as FallibleIterator>⟧.contract (zip_longest_left_fused s)
-        ⟦<Fuse<U> as FallibleIterator>⟧.contract (zip_longest_right_fused s) }
+        ⟦<Fuse<T> as FallibleIterator>⟧.contract (left_fused (zip_longest_parts {B = U.Item} s))
+        ⟦<Fuse<U> as FallibleIterator>⟧.contract (right_fused (zip_longest_parts {B = U.Item} s)) }
 {}

@@ -4,11 +4,12 @@ use Rattle.std.proofs.Common.{sym, subst, inr, arith}
 use Rattle.fallible_iterator.specs.Contract.{AtMost}
 use Rattle.fallible_iterator.specs.Cutting.Fuse.{fuse_contract, fuse_source}
 use Rattle.fallible_itertools_adapters.specs.MergeBy.{merge_by_contract}
-use Rattle.fallible_itertools_adapters.proofs.Lemmas.MergeBy.{lists_merged, lists_for_good_merged}
+use Rattle.fallible_iterator.proofs.Lemmas.Lists.ForGood.{lists_once}
+use Rattle.fallible_itertools_adapters.proofs.Lemmas.MergeBy.{lists_for_good_merged}
 use Rattle.fallible_itertools.proofs.traits.FallibleItertools.merge_by.Goals as goal
 
 pub returns-clause-lists : goal.returns-clause-lists
-returns-clause-lists g c h acts a b i k = lists_merged g.Self.FallibleIterator.contract g.I.IntoFallibleIter.FallibleIterator.contract g.F.FnMut _ _ _ _ h a b c.new.ensures c.fuse.ensures.parts c.fuse-2.ensures.parts acts i (k _ c.into_fallible_iter.ensures)
+returns-clause-lists g c h acts a b i k = lists_once _ (lists_for_good_merged g.Self.FallibleIterator.contract g.I.IntoFallibleIter.FallibleIterator.contract g.F.FnMut _ _ _ _ h a b c.new.ensures c.fuse.ensures.parts c.fuse-2.ensures.parts acts i (k _ c.into_fallible_iter.ensures))
 
 pub returns-clause-for_good : goal.returns-clause-for_good
 returns-clause-for_good g c h acts a b i k = lists_for_good_merged g.Self.FallibleIterator.contract g.I.IntoFallibleIter.FallibleIterator.contract g.F.FnMut _ _ _ _ h a b c.new.ensures c.fuse.ensures.parts c.fuse-2.ensures.parts acts i (k _ c.into_fallible_iter.ensures)
