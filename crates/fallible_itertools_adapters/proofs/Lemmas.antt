@@ -60,7 +60,6 @@ pub mod Unique
 pub mod UniqueBy
 pub mod UniqueByOf
 pub mod UniqueOf
-pub mod WindowHints
 pub mod UnlessRefused
 pub mod WithPosition
 pub mod WithPositionHints

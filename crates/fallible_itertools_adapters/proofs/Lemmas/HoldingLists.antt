@@ -155,7 +155,7 @@ module _ {S P Q X Y B E : Type 0} (steps : S → Answered X E → S → Type 0) 
     end_made End = inl refl
 
     gives_held : (l : List (Result X E)) (s : S) (p : P) (a : Q) → At p a → AlwaysGives steps s l → GivesUpTo steps stop_comes (holding_meets asks) made Refuses (s, (p, None)) (held_list does next a l)
-    gives_held = gives_staged_up_to_refusal steps stop_comes (holding_meets asks) made Refuses stop_comes At (held_does does next) stop_answer_is_made acts (λ p q a m at w. (end_made (does a None), (acts_at_stop None p q a m at w).1)) never_nil
+    gives_held = gives_staged_up_to_refusal steps stop_comes (holding_meets asks) made Refuses stop_comes At (held_does does next) stop_answer_is_made acts (λ p q a m at w. (end_made (does a None), (acts_at_stop None p q a m at w).1)) (λ p q a y l r due t at w k. never_nil a y l r (t, (q, due)) k)
 
 -- ---- plain
 
