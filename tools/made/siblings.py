@@ -11,7 +11,7 @@ SIBLINGS = {
     "terms of what buffers": ["dedup", "dedup_by_key", "coalesce", "chunk_by"],
     "terms of consumers and searches": ["checked_sum", "fold_while", "try_find"],
 }
-CALLS = ("next", "drive", "on_item", "ask")
+CALLS = ("next", "drive", "on_item")
 HEAD = "| Goal | Lemmas | In |\n|---|---|---|"
 LEMMAS = re.compile(r"use Rattle\.(?!std\b)\w+\.(?:proofs\.Lemmas|specs\.Laws)\.[\w.]+\.\{([^}]*)\}")
 GOAL = re.compile(r"(?:abbrev )?pub ([\w-]+) : goal\.\1")

@@ -1,6 +1,7 @@
 -- The lemmas of the two crates below, handed on.
 pub use Rattle.fallible_itertools_adapters.proofs.Lemmas.Adjacent
 pub use Rattle.fallible_itertools_adapters.proofs.Lemmas.Ahead
+pub use Rattle.fallible_itertools_adapters.proofs.Lemmas.BeforeStop
 pub use Rattle.fallible_itertools_adapters.proofs.Lemmas.ChunkBy
 pub use Rattle.fallible_itertools_adapters.proofs.Lemmas.Chunked
 pub use Rattle.fallible_itertools_adapters.proofs.Lemmas.ChunkedBy
@@ -13,8 +14,6 @@ pub use Rattle.fallible_itertools_adapters.proofs.Lemmas.CountedGroups
 pub use Rattle.fallible_itertools_adapters.proofs.Lemmas.Dedup
 pub use Rattle.fallible_itertools_adapters.proofs.Lemmas.DedupBy
 pub use Rattle.fallible_itertools_adapters.proofs.Lemmas.DedupByKey
-pub use Rattle.fallible_itertools_adapters.proofs.Lemmas.DedupByWithCount
-pub use Rattle.fallible_itertools_adapters.proofs.Lemmas.DedupWithCount
 pub use Rattle.fallible_itertools_adapters.proofs.Lemmas.Deduped
 pub use Rattle.fallible_itertools_adapters.proofs.Lemmas.Duplicates
 pub use Rattle.fallible_itertools_adapters.proofs.Lemmas.DuplicatesOf
@@ -61,7 +60,6 @@ pub use Rattle.fallible_itertools_adapters.proofs.Lemmas.UniqueByOf
 pub use Rattle.fallible_itertools_adapters.proofs.Lemmas.UniqueOf
 pub use Rattle.fallible_itertools_adapters.proofs.Lemmas.UnlessRefused
 pub use Rattle.fallible_itertools_adapters.proofs.Lemmas.WithPosition
-pub use Rattle.fallible_itertools_adapters.proofs.Lemmas.WithPositionHints
 pub use Rattle.fallible_itertools_adapters.proofs.Lemmas.ZipEq
 pub use Rattle.fallible_itertools_adapters.proofs.Lemmas.ZipLongest
 pub use Rattle.fallible_itertools_consumers.proofs.Lemmas.AllUnique

@@ -2,6 +2,7 @@
 pub use Rattle.fallible_itertools_adapters.specs.Adjacent
 pub use Rattle.fallible_itertools_adapters.specs.Ahead
 pub use Rattle.fallible_itertools_adapters.specs.Batch
+pub use Rattle.fallible_itertools_adapters.specs.BeforeStop
 pub use Rattle.fallible_itertools_adapters.specs.ChunkBy
 pub use Rattle.fallible_itertools_adapters.specs.Chunks
 pub use Rattle.fallible_itertools_adapters.specs.Coalesce

@@ -34,8 +34,8 @@ ghost use Rattle.fallible_itertools_consumers.specs.CmpBy as comparing;
 ghost use Rattle.fallible_itertools_consumers.specs.Converting as trying;
 ghost use Rattle.fallible_itertools_adapters.specs.Copied.{copied_contract, copied_parts};
 ghost use Rattle.fallible_itertools_consumers.specs.Counts.{IsCountsOf};
-ghost use Rattle.fallible_itertools_adapters.specs.Dedup.{dedup_contract, dedup_parts, deduped};
-ghost use Rattle.fallible_itertools_adapters.specs.DedupBy.{dedup_by_asks, dedup_by_contract, dedup_by_parts, dedup_by_takes, deduped_by};
+ghost use Rattle.fallible_itertools_adapters.specs.Dedup.{dedup_contract, dedup_parts, dedup_stops, deduped};
+ghost use Rattle.fallible_itertools_adapters.specs.DedupBy.{dedup_by_contract, dedup_by_parts, dedup_by_plan, deduped_by, same_call, same_takes};
 ghost use Rattle.fallible_itertools_adapters.specs.DedupByKey as dedup_by_key;
 ghost use Rattle.fallible_itertools_adapters.specs.DedupByWithCount.{dedup_by_with_count_asks, dedup_by_with_count_contract, dedup_by_with_count_parts, dedup_by_with_count_takes};
 ghost use Rattle.fallible_itertools_adapters.specs.DedupWithCount.{dedup_with_count_contract, dedup_with_count_parts};
@@ -165,15 +165,14 @@ pub trait FallibleItertools: FallibleIterator {
             Self::Item,
             Self::Item,
         ) -> Result<Result<Self::Item, (Self::Item, Self::Item)>, Self::Error>,
-        requires callable { IsCallable (coalesce.coalesce_asks (fold.call_with F.FnMut))
-            (coalesce.coalesce_takes (fold.takes_with F.FnMut)) (MayBeAsked Self.contract self)
-            (None, f) }
+        requires callable { plan_can (coalesce.coalesce_call F.FnMut) coalesce.coalesce_plan dedup_stops
+            (coalesce.coalesce_takes F.FnMut) (MayMeet Self.contract self) (None, f) }
         ensures parts { coalesce.coalesce_parts result ≡ (self, ((None, f), None)) }
         ensures lists { (h : Self.Item → Self.Item → coalesce.OneOrBoth Self.Item Self.Error)
             (l : List (Result Self.Item Self.Error))
             → list.ActsWith (fold.call_with F.FnMut) f h → list.Lists Self.contract.steps self l
             → list.Lists (seen_as coalesce.coalesce_parts
-            (coalesce.coalesce_contract Self.contract F.FnMut)).steps result
+            (coalesce.coalesce_contract F.FnMut Self.contract)).steps result
             (coalesce.coalesced h l) }
     {
         Coalesce::new(self, f)
@@ -200,14 +199,14 @@ pub trait FallibleItertools: FallibleIterator {
         requires callable { IsCallable (call_by_reference F.FnMut) (takes_by_reference F.FnMut)
             (Self.contract.may_give self) f }
         ensures parts { dedup_by_key.dedup_by_key_parts result ≡ (self, ((None, f), None)) }
-        ensures callable { IsCallable (dedup_by_key.dedup_key_asks K.eq (call_by_reference F.FnMut))
-            (dedup_by_key.dedup_key_takes (takes_by_reference F.FnMut)) (MayBeAsked Self.contract self)
+        ensures callable { plan_can (call_by_reference F.FnMut) (dedup_by_key.dedup_key_plan K.eq)
+            dedup_by_key.dedup_key_stops (takes_by_reference F.FnMut) (MayMeet Self.contract self)
             (None, f) }
         ensures lists { (h : Self.Item → Result K Self.Error)
             (l : List (Result Self.Item Self.Error)) → list.Acts (call_by_reference F.FnMut) f h
             → list.Lists Self.contract.steps self l
             → list.Lists (seen_as dedup_by_key.dedup_by_key_parts
-            (dedup_by_key.dedup_by_key_contract K.eq Self.contract F.FnMut)).steps result
+            (dedup_by_key.dedup_by_key_contract K.eq F.FnMut Self.contract)).steps result
             (dedup_by_key.deduped_by_key K.eq h l) }
     {
         DedupByKey::new(self, f)
@@ -232,13 +231,13 @@ pub trait FallibleItertools: FallibleIterator {
         Self::Item: Drop,
         Self::Error: Drop,
         F: FnMut(&Self::Item, &Self::Item) -> Result<bool, Self::Error>,
-        requires callable { IsCallable (dedup_by_asks (call_at_two F.FnMut))
-            (dedup_by_takes (takes_at_two F.FnMut)) (MayBeAsked Self.contract self) (None, same) }
+        requires callable { plan_can (same_call F.FnMut) dedup_by_plan dedup_stops
+            (same_takes F.FnMut) (MayMeet Self.contract self) (None, same) }
         ensures parts { dedup_by_parts result ≡ (self, ((None, same), None)) }
         ensures lists { (h : Self.Item → Self.Item → Result Bool Self.Error)
             (l : List (Result Self.Item Self.Error))
             → list.ActsWith (call_at_two F.FnMut) same h → list.Lists Self.contract.steps self l
-            → list.Lists (seen_as dedup_by_parts (dedup_by_contract Self.contract F.FnMut)).steps
+            → list.Lists (seen_as dedup_by_parts (dedup_by_contract F.FnMut Self.contract)).steps
             result (deduped_by h l) }
     {
         DedupBy::new(self, same)
@@ -260,7 +259,7 @@ pub trait FallibleItertools: FallibleIterator {
     where
         Self::Item: PartialEq + Drop,
         Self::Error: Drop,
-        ensures parts { dedup_parts result ≡ (self, (None, None)) }
+        ensures parts { dedup_parts result ≡ (self, ((None, tt), None)) }
         ensures lists { (l : List (Result Self.Item Self.Error))
             → list.Lists Self.contract.steps self l
             → list.Lists (seen_as dedup_parts (dedup_contract Self.Item.eq Self.contract)).steps

@@ -14,8 +14,6 @@ pub mod CountedGroups
 pub mod Dedup
 pub mod DedupBy
 pub mod DedupByKey
-pub mod DedupByWithCount
-pub mod DedupWithCount
 pub mod Deduped
 pub mod Duplicates
 pub mod DuplicatesOf
@@ -49,6 +47,7 @@ pub mod Positions
 pub mod RunCounts
 pub mod Sides
 pub mod Staged
+pub mod StagedMade
 pub mod Staging
 pub mod StagingHints
 pub mod StagingLists
@@ -62,6 +61,5 @@ pub mod UniqueByOf
 pub mod UniqueOf
 pub mod UnlessRefused
 pub mod WithPosition
-pub mod WithPositionHints
 pub mod ZipEq
 pub mod ZipLongest

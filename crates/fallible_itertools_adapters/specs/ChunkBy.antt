@@ -1,112 +1,101 @@
 -- `ChunkBy`, which yields groups of adjacent items with equal keys.
-use Rattle.std.specs.Prelude.{◌≡◌, ℕ, Bool, true, false, Option, Some, None, Result, Ok, Err, List, [], ◌∷◌, ◌++◌, vec_items}
+use Rattle.std.specs.Prelude.{◌≡◌, cond, Bool, true, false, Option, Some, None, Result, Ok, Err, List, vec_items}
 use Rattle.std.specs.Fn.{Mut}
 use Rattle.std.specs.Borrow.{Bor}
-use Rattle.fallible_iterator.specs.Closures.{IsCallable, call_by_reference, takes_by_reference}
-use Rattle.fallible_iterator.specs.Traces.{Answered}
+use Rattle.fallible_iterator.specs.Closures.{call_by_reference, takes_by_reference}
+use Rattle.fallible_iterator.specs.Traces.{Answered, item}
 use Rattle.fallible_iterator.specs.Contract.{Contract, Inverse}
-use Rattle.fallible_itertools_adapters.specs.Batch.{Grown, NoRoom, SameHeld, IsRefusal}
-use Rattle.fallible_itertools_adapters.specs.BeforeStop.{held_one}
-use Rattle.fallible_itertools_adapters.specs.Holding.{HoldingTrace, OrStop, holding_contract, one_at_least}
-use Rattle.fallible_iterator.specs.Outcome.{Outcome}
-use Rattle.fallible_iterator.specs.Outcome.TheVariants.{Kept, LeftOut, Failure, End}
+use Rattle.fallible_itertools_adapters.specs.Batch.{Put, Puts, put_last}
+use Rattle.fallible_itertools_adapters.specs.BeforeStop.{before_stop, held_hints, held_one}
+use Rattle.fallible_itertools_adapters.specs.Plan.{Making, Plan, bounded, calls, closure_contract, plan_meets}
+use Rattle.fallible_itertools_adapters.specs.Staged.{as_function, plan_does, staged}
+use Rattle.fallible_itertools_adapters.specs.Staging.{StagedTrace, one_made, stop_comes}
 use Rattle.std.specs.declared.vec.Vec.{Vec}
 use Rattle.std.specs.declared.alloc.Global.{Global}
 use Rattle.std.specs.declared.alloc.AllocError.{AllocError}
 use Rattle.fallible_itertools_adapters.specs.declared.chunk_by.ChunkBy.{ChunkBy}
 use Rattle.std.proofs.Common.{refl}
 
+-- ---- the rule: a group is held, a key beside its items V, if there is one
+
+-- what an item gives: its key, and what putting it gives; or the failure that its key is
+abbrev pub KeyedPut : Type 0 → Type 0 → Type 0 → Type 0
+KeyedPut K V E = Result (K × Put V E) E
+
+module _ {K V : Type 0} where
+  -- the items that an item of the key k is put after: those of the group that is held, where its key equals k
+  abbrev pub joined : (K → K → Bool) → Option (K × V) → K → Option V
+  joined eq None k = None
+  joined eq (Some g) k = cond (eq g.0 k) (Some g.1) None
+
+  -- the group that is held, with its items as they are without the item that was to go into it
+  abbrev pub group_kept : Option (K × V) → Option V → Option (K × V)
+  group_kept None kept = None
+  group_kept (Some g) None = Some g
+  group_kept (Some g) (Some v) = Some (g.0, v)
+
+module _ {K V E : Type 0} where
+  -- where the key is that of the group that is held, the group goes on; where it is another, that group is yielded, and another begins
+  abbrev pub group_at : K × V → K → V → Bool → Making (Option (K × V)) (K × V) (Option E) E
+  group_at g k v true = (None, Some (g.0, v))
+  group_at g k v false = (one_made (item g), Some (k, v))
+
+  -- What becomes of an item by its key. If its key failed, or an allocation, the item is lost, and that is a stop.
+  abbrev pub group_by : (K → K → Bool) → Option (K × V) → KeyedPut K V E → Making (Option (K × V)) (K × V) (Option E) E
+  group_by eq None (Ok (k, Ok v)) = (None, Some (k, v))
+  group_by eq (Some g) (Ok (k, Ok v)) = group_at g k v (eq g.0 k)
+  group_by eq held (Ok (k, Err (kept, e))) = (before_stop (group_kept held kept) (Some e), None)
+  group_by eq held (Err e) = (before_stop held (Some e), None)
+
+  -- The key's closure is called on each item.
+  abbrev pub chunk_by_plan : {A : Type 0} → (K → K → Bool) → Option (K × V) → A → Plan (Option (K × V) × A) (KeyedPut K V E) (Making (Option (K × V)) (K × V) (Option E) E)
+  chunk_by_plan eq held x = calls (held, x) (group_by eq held)
+
+  -- At a stop the group that is held comes first.
+  abbrev pub chunk_by_stops : Option (K × V) → Option E → Making (Option (K × V)) (K × V) (Option E) E
+  chunk_by_stops held stop = (before_stop held stop, None)
+
+-- ---- its contract and its trace
+
 -- a key and the items of it that came one after another
 abbrev pub Group : Type 0 → Type 0 → Type 0
 Group K A = K × Vec A Global
 
-module _ {A K E : Type 0} where
-  -- a stop yields the group that is held
-  abbrev pub group_at_stop : Option (Group K A) → Outcome (Group K A) E → Option (Group K A) → Type 0
-  group_at_stop None o q = (o ≡ End) × (q ≡ None)
-  group_at_stop (Some g) o q = (o ≡ Kept g) × (q ≡ None)
-
-module _ {A K E : Type 0} (from : AllocError → E → Type 0) where
-  -- An item of the key k becomes the first of a group, and the one that was held is yielded, if there was one. If an allocation fails the item is lost, and the group stays held.
-  abbrev pub group_begun : Option (Group K A) → A → K → Outcome (Group K A) E → Option (Group K A) → Type 0
-  group_begun None x k (Kept y) q = ⊥
-  group_begun (Some g) x k (Kept y) q = (y ≡ g) × ((w : Vec A Global) × Grown None x w × (q ≡ Some (k, w)))
-  group_begun None x k LeftOut q = (w : Vec A Global) × Grown None x w × (q ≡ Some (k, w))
-  group_begun (Some g) x k LeftOut q = ⊥
-  group_begun g x k (Failure e) q = IsRefusal from e × (q ≡ g)
-  group_begun g x k End q = ⊥
-
-  -- An item of the key of the group that is held is put after its items. If an allocation fails the item is lost, and the others stay held.
-  abbrev pub group_grown : Group K A → A → Outcome (Group K A) E → Option (Group K A) → Type 0
-  group_grown g x (Kept y) q = ⊥
-  group_grown g x LeftOut q = (w : Vec A Global) × Grown (Some g.1) x w × (q ≡ Some (g.0, w))
-  group_grown g x (Failure e) q = IsRefusal from e × NoRoom (Some g.1) × ((w : Vec A Global) × SameHeld (Some g.1) (Some w) × (q ≡ Some (g.0, w)))
-  group_grown g x End q = ⊥
-
-  -- an item goes on with the group that is held, or begins one
-  abbrev pub group_at : Group K A → A → K → Bool → Outcome (Group K A) E → Option (Group K A) → Type 0
-  group_at g x k true o q = group_grown g x o q
-  group_at g x k false o q = group_begun (Some g) x k o q
-
-  module _ (eq : K → K → Bool) where
-    -- what becomes of an item by its key, which is compared to that of the group that is held; if the key's closure failed, that is a stop, the item is lost, and the group stays held before it
-    abbrev pub group_by : Option (Group K A) → A → Result K E → Outcome (Group K A) E → Option (Group K A) → Type 0
-    group_by None x (Ok k) o q = group_begun None x k o q
-    group_by (Some g) x (Ok k) o q = group_at g x k (eq g.0 k) o q
-    group_by g x (Err e) o q = (o ≡ Failure e) × (q ≡ g)
-
-    module _ {F : Type 0} (g : Mut F (Bor A × Unit {0}) (Result K E)) where
-      -- The key's closure is called once on each item, and on no stop.
-      abbrev pub chunk_by_asks : F × Option (Group K A) → Option A → Outcome (Group K A) E → F × Option (Group K A) → Type 0
-      chunk_by_asks p (Some x) o q = (v : Result K E) × call_by_reference g p.0 x v q.0 × group_by p.1 x v o q.1
-      chunk_by_asks p None o q = (q.0 ≡ p.0) × group_at_stop p.1 o q.1
-
-      -- `ChunkBy`: the items in groups, each where the next key differs or a stop stands. The closure's failure and a failed allocation are stops.
-      abbrev pub ChunkByTrace : {S : Type 0} → (S → Answered A E → S → Type 0) → S × ((F × Option (Group K A)) × Option (Option E)) → List (Answered (Group K A) E) → S × ((F × Option (Group K A)) × Option (Option E)) → Type 0
-      ChunkByTrace steps p trace q = HoldingTrace steps chunk_by_asks p trace q
-
 -- the closure may be called on the item
-abbrev pub key_takes : {F A K E : Type 0} → Mut F (Bor A × Unit {0}) (Result K E) → F × Option (Group K A) → Option A → Type 0
-key_takes g p asked = OrStop (takes_by_reference g p.0) asked
+abbrev pub takes_key : {F A K E : Type 0} → Mut F (Bor A × Unit {0}) (Result K E) → F → Option (Group K A) × A → Type 0
+takes_key g f q = takes_by_reference g f q.1
 
--- a group that is held, or none
-abbrev pub group_held : {F A K : Type 0} → F × Option (Group K A) → ℕ
-group_held p = held_one p.1
+module _ {F A K E : Type 0} (from : AllocError → E → Type 0) (eq : K → K → Bool) (g : Mut F (Bor A × Unit {0}) (Result K E)) where
+  -- The closure is called once, and an item with a key is put after those of its group.
+  abbrev pub puts_by_key : F → Option (Group K A) × A → KeyedPut K (Vec A Global) E → F → Type 0
+  puts_by_key f q (Ok (k, v)) h = call_by_reference g f q.1 (Ok k) h × Puts from (joined eq q.0 k) q.1 v
+  puts_by_key f q (Err e) h = call_by_reference g f q.1 (Err e) h
 
--- `ChunkBy`'s contract. Its condition: one of the source, a bound of it, and that the closure may be called on what comes.
-abbrev pub chunk_by_contract : {S F A K E : Type 0} → (AllocError → E → Type 0) → (K → K → Bool) → Mut F (Bor A × Unit {0}) (Result K E) → Contract S A E → Contract (S × ((F × Option (Group K A)) × Option (Option E))) (Group K A) E
-chunk_by_contract from eq g m = let h = holding_contract m (chunk_by_asks from eq g) (key_takes g) group_held (one_at_least m group_held) in record h { can_next = λ p. m.is_finite p.0 × m.can_next p.0 × IsCallable (call_by_reference g) (takes_by_reference g) (m.may_give p.0) p.1.0.0 }
+  -- `ChunkBy`: the items in groups, each where the next key differs or a stop stands. The closure's failure and a failed allocation are stops. The parts are the source, the group that is held beside the closure, and the stop that is due.
+  abbrev pub ChunkByTrace : {S : Type 0} → (S → List (Answered A E) → S → Type 0) → S × ((Option (Group K A) × F) × Option (Option E)) → List (Answered (Group K A) E) → S × ((Option (Group K A) × F) × Option (Option E)) → Type 0
+  ChunkByTrace traces p trace q = StagedTrace traces stop_comes (plan_meets puts_by_key (chunk_by_plan eq) chunk_by_stops) p trace q
+
+  -- `ChunkBy`'s contract. Its condition: one of the source, a bound of it, and that the closure may be called on what comes.
+  abbrev pub chunk_by_contract : {S : Type 0} → Contract S A E → Contract (S × ((Option (Group K A) × F) × Option (Option E))) (Group K A) E
+  chunk_by_contract m = closure_contract (bounded m) stop_comes puts_by_key (takes_key g) (chunk_by_plan eq) chunk_by_stops 1 held_one (held_hints held_one)
 
 -- ---- what it lists
 
 module _ {A K E : Type 0} (eq : K → K → Bool) (h : A → Result K E) where
-  -- what a group goes on with at an item of the key k: more of itself, or itself and another group
-  abbrev pub group_or : K × List A → Bool → List (Result (K × List A) E) → List (Result (K × List A) E) → List (Result (K × List A) E)
-  group_or g true more other = more
-  group_or g false more other = Ok g ∷ other
-
-  -- what comes at an item, by its key or the closure's failure, before which comes the group that is held
-  abbrev pub by_its_key : Option (K × List A) → Result K E → (K → List (Result (K × List A) E)) → List (Result (K × List A) E) → List (Result (K × List A) E)
-  by_its_key held (Ok k) keyed lost = keyed k
-  by_its_key None (Err e) keyed lost = Err e ∷ lost
-  by_its_key (Some g) (Err e) keyed lost = Ok g ∷ Err e ∷ lost
-
-  -- what `chunked_by` makes of the list, if the group of a key with its items is held before it, or none is
-  unfoldable pub chunked_by_from : Option (K × List A) → List (Result A E) → List (Result (K × List A) E)
-  chunked_by_from None [] = []
-  chunked_by_from (Some g) [] = Ok g ∷ []
-  chunked_by_from None (Ok x ∷ l) = by_its_key None (h x) (λ k. chunked_by_from (Some (k, x ∷ [])) l) (chunked_by_from None l)
-  chunked_by_from (Some g) (Ok x ∷ l) = by_its_key (Some g) (h x) (λ k. group_or g (eq g.0 k) (chunked_by_from (Some (g.0, g.1 ++ x ∷ [])) l) (chunked_by_from (Some (k, x ∷ [])) l)) (chunked_by_from None l)
-  chunked_by_from None (Err e ∷ l) = Err e ∷ chunked_by_from None l
-  chunked_by_from (Some g) (Err e ∷ l) = Ok g ∷ Err e ∷ chunked_by_from None l
+  -- what an item gives by its key
+  abbrev pub put_by_key : Option (K × List A) → A → Result K E → KeyedPut K (List A) E
+  put_by_key held x (Ok k) = Ok (k, put_last (joined eq held k) x)
+  put_by_key held x (Err e) = Err e
 
   -- the adjacent items with equal keys, as h makes them, each group with its key; before a failure of the list or of h comes the group that is held, so a failure parts groups
   unfoldable pub chunked_by : List (Result A E) → List (Result (K × List A) E)
-  chunked_by l = chunked_by_from None l
+  chunked_by l = staged stop_comes (plan_does (as_function (λ q. put_by_key q.0 q.1 (h q.1))) (chunk_by_plan eq) chunk_by_stops) (None, tt) l
 
 -- a group is made of a key and items: it has that key, and those items
 abbrev pub MadeGroup : {A K : Type 0} → K × List A → Group K A → Type 0
 MadeGroup k g = (g.0 ≡ k.0) × (vec_items g.1 ≡ k.1)
+
+-- ---- its parts
 
 -- the source
 abbrev pub chunk_by_source : {I K F A E : Type 0} → ChunkBy I K F A E → I
@@ -116,8 +105,8 @@ chunk_by_source s = s.it
 abbrev pub chunk_by_due : {I K F A E : Type 0} → ChunkBy I K F A E → Option (Option E)
 chunk_by_due s = s.stage.1
 
--- the source, beside the key's closure the group that is held, and the stop that is due
-abbrev pub chunk_by_parts : {I K F A E : Type 0} → ChunkBy I K F A E → I × ((F × Option (Group K A)) × Option (Option E))
+-- the source, the group that is held beside the key's closure, and the stop that is due
+abbrev pub chunk_by_parts : {I K F A E : Type 0} → ChunkBy I K F A E → I × ((Option (Group K A) × F) × Option (Option E))
 chunk_by_parts s = (s.it, s.stage)
 
 -- and back

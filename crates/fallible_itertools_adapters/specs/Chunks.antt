@@ -1,88 +1,86 @@
 -- `Chunks`, which yields batches of n items.
-use Rattle.std.specs.Prelude.{◌≡◌, ℕ, ◌+◌, ◌-◌, ◌/◌, ◌<◌, ◌≤◌, max, cond, leb, Bool, true, false, Option, Some, None, Result, Ok, Err, List, [], ◌∷◌, ◌++◌, length, ltb, ⊤, vec_items}
-use Rattle.fallible_iterator.specs.Traces.{Answered}
+use Rattle.std.specs.Prelude.{◌≡◌, ℕ, ◌+◌, ◌-◌, ◌/◌, ◌<◌, ◌≤◌, max, cond, leb, ltb, Bool, true, false, Option, Some, None, Result, Ok, Err, List, [], ◌∷◌, ◌++◌, length, ⊤, vec_items}
+use Rattle.fallible_iterator.specs.Traces.{Answered, item}
 use Rattle.fallible_iterator.specs.Contract.{Contract, Inverse}
-use Rattle.fallible_itertools_adapters.specs.Batch.{Grown, NoRoom, SameHeld, IsRefusal}
 use Rattle.fallible_iterator.specs.Hints.{fitting_sum}
-use Rattle.fallible_itertools_adapters.specs.BeforeStop.{held_one}
-use Rattle.fallible_itertools_adapters.specs.Holding.{HintUnlessEnd, HoldingTrace, filling_contract}
-use Rattle.fallible_iterator.specs.Outcome.{Outcome}
-use Rattle.fallible_iterator.specs.Outcome.TheVariants.{Kept, LeftOut, Failure, End}
+use Rattle.fallible_itertools_adapters.specs.Batch.{Put, Puts, kept_of, put_last}
+use Rattle.fallible_itertools_adapters.specs.BeforeStop.{before_stop, held_one, hint_unless_end}
+use Rattle.fallible_itertools_adapters.specs.Plan.{HintPlan, Making, Plan, calls, plan_contract, plan_meets}
+use Rattle.fallible_itertools_adapters.specs.Staged.{as_function, plan_does, staged}
+use Rattle.fallible_itertools_adapters.specs.Staging.{StagedTrace, one_made, stop_comes}
 use Rattle.std.specs.declared.vec.Vec.{Vec}
 use Rattle.std.specs.declared.alloc.Global.{Global}
 use Rattle.std.specs.declared.alloc.AllocError.{AllocError}
 use Rattle.fallible_itertools_adapters.specs.declared.chunks.Chunks.{Chunks}
 use Rattle.std.proofs.Common.{refl}
 
--- what is held has the item after those that were, and so many items
-abbrev pub Grows : {A : Type 0} → Option (Vec A Global) → A → Option (Vec A Global) → ℕ → Type 0
-Grows held x None count = ⊥
-Grows held x (Some w) count = Grown held x w × (count ≡ length (vec_items w))
+-- ---- the rule: n is held, and a batch V, if there is one
 
--- the batch that is held is yielded, and an end is returned where none is
-abbrev pub LetsGo : {A E : Type 0} → Option (Vec A Global) → Outcome (Vec A Global) E → Option (Vec A Global) → Type 0
-LetsGo None o q = (o ≡ End) × (q ≡ None)
-LetsGo (Some v) o q = (o ≡ Kept v) × (q ≡ None)
+module _ {V E : Type 0} where
+  -- a batch with too few items is held, and a whole one is yielded
+  abbrev pub batch_at : ℕ → V → Bool → Making (ℕ × Option V) V (Option E) E
+  batch_at n v true = (None, (n, Some v))
+  batch_at n v false = (one_made (item v), (n, None))
 
-module _ {A E : Type 0} (from : AllocError → E → Type 0) where
-  -- A batch is held until it has n items or a stop comes: an item is put after those that are held, and the batch that has n then is yielded. A stop yields the batch that is held. If an allocation fails the item is lost, and that is a stop.
-  abbrev pub chunks_asks : ℕ × Option (Vec A Global) → Option A → Outcome (Vec A Global) E → ℕ × Option (Vec A Global) → Type 0
-  chunks_asks p (Some x) (Kept w) q = Grown p.1 x w × (p.0 ≤ length (vec_items w)) × (q ≡ (p.0, None))
-  chunks_asks p (Some x) LeftOut q = (w : Vec A Global) × Grown p.1 x w × (length (vec_items w) < p.0) × (q ≡ (p.0, Some w))
-  chunks_asks p (Some x) (Failure e) q = IsRefusal from e × NoRoom p.1 × (q.0 ≡ p.0) × SameHeld p.1 q.1
-  chunks_asks p (Some x) End q = ⊥
-  chunks_asks p None (Kept w) q = (p.1 ≡ Some w) × (q ≡ (p.0, None))
-  chunks_asks p None LeftOut q = ⊥
-  chunks_asks p None (Failure e) q = ⊥
-  chunks_asks p None End q = (p.1 ≡ None) × (q ≡ p)
+  -- The batch with the item, by how many it has then. If an allocation failed the item is lost, and that is a stop.
+  abbrev pub batch_by : (V → ℕ) → ℕ × Option V → Put V E → Making (ℕ × Option V) V (Option E) E
+  batch_by count h (Ok v) = batch_at h.0 v (ltb (count v) h.0)
+  batch_by count h (Err (kept, e)) = (before_stop (kept_of h.1 kept) (Some e), (h.0, None))
 
-  -- `Chunks`: the items in batches, each where its last item stands or a stop. A failed allocation is a stop.
-  abbrev pub ChunksTrace : {S : Type 0} → (S → Answered A E → S → Type 0) → S × ((ℕ × Option (Vec A Global)) × Option (Option E)) → List (Answered (Vec A Global) E) → S × ((ℕ × Option (Vec A Global)) × Option (Option E)) → Type 0
-  ChunksTrace steps p trace q = HoldingTrace steps chunks_asks p trace q
+  -- Each item is put after those of the batch that is held.
+  abbrev pub chunks_plan : {A : Type 0} → (V → ℕ) → ℕ × Option V → A → Plan (Option V × A) (Put V E) (Making (ℕ × Option V) V (Option E) E)
+  chunks_plan count h x = calls (h.1, x) (batch_by count h)
+
+  -- At a stop the batch that is held comes first.
+  abbrev pub chunks_stops : ℕ × Option V → Option E → Making (ℕ × Option V) V (Option E) E
+  chunks_stops h stop = (before_stop h.1 stop, (h.0, None))
+
+-- how many items a `Vec` has
+abbrev pub vec_count : {A : Type 0} → Vec A Global → ℕ
+vec_count v = length (vec_items v)
 
 -- a batch that is held, or none
-abbrev pub batch_held : {A : Type 0} → ℕ × Option (Vec A Global) → ℕ
-batch_held p = held_one p.1
+abbrev pub batch_held : {V : Type 0} → ℕ × Option V → ℕ
+batch_held h = held_one h.1
+
+-- ---- its hint
 
 -- how many items the batch that is held takes yet, of which the next one is in any case one; none if none is held
 abbrev pub room_left : {A : Type 0} → ℕ → Option (Vec A Global) → ℕ
 room_left n None = 0
-room_left n (Some v) = max 1 (n - length (vec_items v))
+room_left n (Some v) = max 1 (n - vec_count v)
 
 -- how many batches k items begin, where the first of them go into the room that is left, and from then on one of n begins a batch
 abbrev pub begun : ℕ → ℕ → ℕ → ℕ
 begun n room k = cond (leb k room) 0 (1 + (k - 1 - room) / max n 1)
 
--- At least the batch that is held and those that the source's items begin, and at most the one that is held and as many as the source has items, if that fits. None if an end is due.
-abbrev pub chunks_hints : {S A E : Type 0} → Contract S A E → S × ((ℕ × Option (Vec A Global)) × Option (Option E)) → ℕ × Option ℕ → Type 0
-chunks_hints m (s, (p, due)) h = HintUnlessEnd due (λ j. (k : ℕ × Option ℕ) × m.hints s k × (j.0 ≡ held_one p.1 + begun p.0 (room_left p.0 p.1) k.0) × (j.1 ≡ fitting_sum k.1 (Some (held_one p.1)))) h
+-- at least the batch that is held and those that the source's items begin, and at most the one that is held and as many as the source has items, if that fits
+abbrev pub batches_hint : {A : Type 0} → ℕ × Option (Vec A Global) → ℕ × Option ℕ → ℕ × Option ℕ
+batches_hint h k = (held_one h.1 + begun h.0 (room_left h.0 h.1) k.0, fitting_sum k.1 (Some (held_one h.1)))
 
--- `Chunks`' contract. It requires no bound of the source: one draw leaves out fewer items than a batch has.
-abbrev pub chunks_contract : {S A E : Type 0} → (AllocError → E → Type 0) → Contract S A E → Contract (S × ((ℕ × Option (Vec A Global)) × Option (Option E))) (Vec A Global) E
-chunks_contract from m = filling_contract m (chunks_asks from) (λ p x. ⊤) batch_held (chunks_hints m)
+abbrev pub chunks_hints : {A E : Type 0} → ℕ × Option (Vec A Global) → Option (Option E) → HintPlan
+chunks_hints h due = hint_unless_end (calls tt (batches_hint h)) due
+
+-- ---- its contract and its trace
+
+module _ {A E : Type 0} (from : AllocError → E → Type 0) where
+  -- nothing but an allocation is called
+  abbrev pub puts : Unit {0} → Option (Vec A Global) × A → Put (Vec A Global) E → Unit {0} → Type 0
+  puts u q v w = Puts from q.0 q.1 v
+
+  -- `Chunks`: the items in batches, each where its last item stands or a stop. A failed allocation is a stop. The parts are the source, beside n the batch that is held, and the stop that is due.
+  abbrev pub ChunksTrace : {S : Type 0} → (S → List (Answered A E) → S → Type 0) → S × (((ℕ × Option (Vec A Global)) × Unit {0}) × Option (Option E)) → List (Answered (Vec A Global) E) → S × (((ℕ × Option (Vec A Global)) × Unit {0}) × Option (Option E)) → Type 0
+  ChunksTrace traces p trace q = StagedTrace traces stop_comes (plan_meets puts (chunks_plan vec_count) chunks_stops) p trace q
+
+  -- `Chunks`' contract. It requires no bound of the source: one draw leaves out fewer items than a batch has.
+  abbrev pub chunks_contract : {S : Type 0} → Contract S A E → Contract (S × (((ℕ × Option (Vec A Global)) × Unit {0}) × Option (Option E))) (Vec A Global) E
+  chunks_contract m = plan_contract m stop_comes puts (chunks_plan vec_count) chunks_stops 1 batch_held chunks_hints
 
 -- ---- what it lists
 
-module _ {A E : Type 0} where
-  -- the batch that is held, where it has items, before what comes at a stop
-  abbrev pub short_batch : List A → List (Result (List A) E) → List (Result (List A) E)
-  short_batch [] rest = rest
-  short_batch (x ∷ xs) rest = Ok (x ∷ xs) ∷ rest
-
-  -- a batch that has too few items yet, or is whole
-  abbrev pub batch_or : List A → Bool → List (Result (List A) E) → List (Result (List A) E) → List (Result (List A) E)
-  batch_or xs true more other = more
-  batch_or xs false more other = Ok xs ∷ other
-
-  -- what `chunked n` makes of the list, if the items xs are held before it
-  unfoldable pub chunked_from : ℕ → List A → List (Result A E) → List (Result (List A) E)
-  chunked_from n xs [] = short_batch xs []
-  chunked_from n xs (Ok x ∷ l) = batch_or (xs ++ x ∷ []) (ltb (length (xs ++ x ∷ [])) n) (chunked_from n (xs ++ x ∷ []) l) (chunked_from n [] l)
-  chunked_from n xs (Err e ∷ l) = short_batch xs (Err e ∷ chunked_from n [] l)
-
-  -- the items in batches of n, of which one before a failure and the last may have fewer
-  unfoldable pub chunked : ℕ → List (Result A E) → List (Result (List A) E)
-  chunked n l = chunked_from n [] l
+-- the items in batches of n, of which one before a failure and the last may have fewer
+unfoldable pub chunked : {A E : Type 0} → ℕ → List (Result A E) → List (Result (List A) E)
+chunked n l = staged stop_comes (plan_does (as_function (λ q. put_last q.0 q.1)) (chunks_plan length) chunks_stops) ((n, None), tt) l
 
 -- the batches joined
 abbrev pub batches_joined : {A : Type 0} → List (List A) → List A
@@ -100,20 +98,22 @@ BatchesOf n [] = ⊤
 BatchesOf n (b ∷ []) = (0 < length b) × (length b ≤ n)
 BatchesOf n (b ∷ c ∷ bs) = (length b ≡ n) × BatchesOf n (c ∷ bs)
 
+-- ---- its parts
+
 -- the source
 abbrev pub chunks_source : {I A E : Type 0} → Chunks I A E → I
 chunks_source s = s.it
 
 -- how many items a batch has
 abbrev pub chunks_size : {I A E : Type 0} → Chunks I A E → ℕ
-chunks_size s = s.stage.0.0
+chunks_size s = s.stage.0.0.0
 
 -- the stop that is due, if one is
 abbrev pub chunks_due : {I A E : Type 0} → Chunks I A E → Option (Option E)
 chunks_due s = s.stage.1
 
 -- the source, beside the size the batch that is held, and the stop that is due
-abbrev pub chunks_parts : {I A E : Type 0} → Chunks I A E → I × ((ℕ × Option (Vec A Global)) × Option (Option E))
+abbrev pub chunks_parts : {I A E : Type 0} → Chunks I A E → I × (((ℕ × Option (Vec A Global)) × Unit {0}) × Option (Option E))
 chunks_parts s = (s.it, s.stage)
 
 -- and back

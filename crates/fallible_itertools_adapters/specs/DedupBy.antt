@@ -1,43 +1,43 @@
 -- `DedupBy`, which yields the first of adjacent items that a closure finds the same.
-use Rattle.std.specs.Prelude.{◌≡◌, Bool, true, false, Option, Some, None, Result, Ok, Err, List, [], ◌∷◌, ⊤}
+use Rattle.std.specs.Prelude.{Bool, Option, Some, None, Result, Ok, Err, List}
 use Rattle.std.specs.Fn.{Mut}
 use Rattle.std.specs.Borrow.{Bor}
 use Rattle.fallible_iterator.specs.Traces.{Answered}
 use Rattle.fallible_iterator.specs.Contract.{Contract, Inverse}
 use Rattle.fallible_iterator.specs.Picking.{call_at_two, takes_at_two}
-use Rattle.fallible_itertools_adapters.specs.Holding.{HoldingTrace, holding_contract, held_beside, one_at_least}
-use Rattle.fallible_iterator.specs.Outcome.{Outcome}
-use Rattle.fallible_iterator.specs.Outcome.TheVariants.{Kept, LeftOut, Failure, End}
+use Rattle.fallible_itertools_adapters.specs.BeforeStop.{before_stop, held_hints, held_one}
+use Rattle.fallible_itertools_adapters.specs.Dedup.{dedup_stops, unless_same}
+use Rattle.fallible_itertools_adapters.specs.Plan.{Making, Plan, bounded, call_on_pair, calls, closure_contract, makes, plan_meets, takes_pair}
+use Rattle.fallible_itertools_adapters.specs.Staged.{as_function, plan_does, staged}
+use Rattle.fallible_itertools_adapters.specs.Staging.{StagedTrace, stop_comes}
 use Rattle.fallible_itertools_adapters.specs.declared.dedup_by.DedupBy.{DedupBy}
 use Rattle.std.proofs.Common.{refl}
 
--- What becomes of an item x beside the item y that is held, by the closure's result: x is left out if they are the same, and otherwise y is yielded and x is held; if the closure fails, x is lost, and nothing else is.
-abbrev pub found_same : {A E : Type 0} → A → A → Result Bool E → Outcome A E → Option A → Type 0
-found_same y x (Ok true) o q = (o ≡ LeftOut) × (q ≡ Some y)
-found_same y x (Ok false) o q = (o ≡ Kept y) × (q ≡ Some x)
-found_same y x (Err e) o q = (o ≡ Failure e) × (q ≡ Some y)
+-- By what the closure returns of the held item y and the next one, x: whether they are the same; where it fails, x is lost, and its failure is a stop.
+abbrev pub same_by : {A E : Type 0} → A → A → Result Bool E → Making (Option A) A (Option E) E
+same_by y x (Ok same) = unless_same y x same
+same_by y x (Err e) = dedup_stops (Some y) (Some e)
 
-module _ {A F E : Type 0} (call : F → A → A → Result Bool E → F → Type 0) where
-  -- An item is held beside the closure, which is called on references to it and the next one.
-  abbrev pub dedup_by_asks : Option A × F → Option A → Outcome A E → Option A × F → Type 0
-  dedup_by_asks (None, f) (Some x) o q = (o ≡ LeftOut) × (q ≡ (Some x, f))
-  dedup_by_asks (Some y, f) (Some x) o q = (v : Result Bool E) × call f y x v q.1 × found_same y x v o q.0
-  dedup_by_asks (None, f) None o q = (o ≡ End) × (q ≡ (None, f))
-  dedup_by_asks (Some y, f) None o q = (o ≡ Kept y) × (q ≡ (None, f))
+-- The first of items that are the same is held. The closure is called on it and the next one.
+abbrev pub dedup_by_plan : {A E : Type 0} → Option A → A → Plan (A × A) (Result Bool E) (Making (Option A) A (Option E) E)
+dedup_by_plan None x = makes (None, Some x)
+dedup_by_plan (Some y) x = calls (y, x) (same_by y x)
+
+module _ {A F E : Type 0} (g : Mut F (Bor A × (Bor A × Unit {0})) (Result Bool E)) where
+  -- a call on references to both; and where it may be made
+  abbrev pub same_call : F → A × A → Result Bool E → F → Type 0
+  same_call = call_on_pair (call_at_two g)
+
+  abbrev pub same_takes : F → A × A → Type 0
+  same_takes = takes_pair (takes_at_two g)
 
   -- `DedupBy`: the first of adjacent items that are the same, each where the next one that differs stands or a stop; the closure's failure is a stop.
-  abbrev pub DedupByTrace : {S : Type 0} → (S → Answered A E → S → Type 0) → S × ((Option A × F) × Option (Option E)) → List (Answered A E) → S × ((Option A × F) × Option (Option E)) → Type 0
-  DedupByTrace steps p trace q = HoldingTrace steps dedup_by_asks p trace q
+  abbrev pub DedupByTrace : {S : Type 0} → (S → List (Answered A E) → S → Type 0) → S × ((Option A × F) × Option (Option E)) → List (Answered A E) → S × ((Option A × F) × Option (Option E)) → Type 0
+  DedupByTrace traces p trace q = StagedTrace traces stop_comes (plan_meets same_call dedup_by_plan dedup_stops) p trace q
 
--- the closure may be called on references to what is held and the item
-abbrev pub dedup_by_takes : {A F : Type 0} → (F → A → A → Type 0) → Option A × F → Option A → Type 0
-dedup_by_takes takes (None, f) asked = ⊤
-dedup_by_takes takes (Some y, f) None = ⊤
-dedup_by_takes takes (Some y, f) (Some x) = takes f y x
-
--- `DedupBy`'s contract
-abbrev pub dedup_by_contract : {S A F E : Type 0} → Contract S A E → Mut F (Bor A × (Bor A × Unit {0})) (Result Bool E) → Contract (S × ((Option A × F) × Option (Option E))) A E
-dedup_by_contract m g = holding_contract m (dedup_by_asks (call_at_two g)) (dedup_by_takes (takes_at_two g)) held_beside (one_at_least m held_beside)
+  -- `DedupBy`'s contract
+  abbrev pub dedup_by_contract : {S : Type 0} → Contract S A E → Contract (S × ((Option A × F) × Option (Option E))) A E
+  dedup_by_contract m = closure_contract (bounded m) stop_comes same_call same_takes dedup_by_plan dedup_stops 1 held_one (held_hints held_one)
 
 -- the source
 abbrev pub dedup_by_source : {I A E F : Type 0} → DedupBy I F A E → I
@@ -59,23 +59,6 @@ dedup_by_parts s = (s.it, s.stage)
 pub dedup_by_made : {I A E F : Type 0} → Inverse (dedup_by_parts {I = I} {A = A} {E = E} {F = F})
 dedup_by_made = record { make = λ p. record { it = p.0; stage = p.1 }; made = λ s. refl; has = λ p. refl }
 
--- ---- what it lists
-
--- what stands before the rest, by the closure's result on the item y that is held and the next one, x; `rest` is the list of what comes where that item is held, or none
-abbrev pub same_before : {A E : Type 0} → A → A → Result Bool E → (Option A → List (Result A E)) → List (Result A E)
-same_before y x (Ok true) rest = rest (Some y)
-same_before y x (Ok false) rest = Ok y ∷ rest (Some x)
-same_before y x (Err e) rest = Ok y ∷ Err e ∷ rest None
-
--- what `deduped_by` makes of the list, if an item is held before it, or none is
-unfoldable pub deduped_by_from : {A E : Type 0} → (A → A → Result Bool E) → Option A → List (Result A E) → List (Result A E)
-deduped_by_from h None [] = []
-deduped_by_from h (Some y) [] = Ok y ∷ []
-deduped_by_from h None (Ok x ∷ l) = deduped_by_from h (Some x) l
-deduped_by_from h (Some y) (Ok x ∷ l) = same_before y x (h y x) (λ held. deduped_by_from h held l)
-deduped_by_from h None (Err e ∷ l) = Err e ∷ deduped_by_from h None l
-deduped_by_from h (Some y) (Err e ∷ l) = Ok y ∷ Err e ∷ deduped_by_from h None l
-
 -- Of adjacent items x where h y x is true, y the last item that is kept, y alone; where h fails, its failure in the place of x. Before a failure comes the item that is held, so a failure parts them.
 unfoldable pub deduped_by : {A E : Type 0} → (A → A → Result Bool E) → List (Result A E) → List (Result A E)
-deduped_by h l = deduped_by_from h None l
+deduped_by h l = staged stop_comes (plan_does (as_function (λ both. h both.0 both.1)) dedup_by_plan dedup_stops) (None, tt) l

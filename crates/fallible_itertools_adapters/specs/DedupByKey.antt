@@ -1,73 +1,54 @@
 -- `DedupByKey`, which yields the first of adjacent items with equal keys.
-use Rattle.std.specs.Prelude.{◌≡◌, Bool, true, false, Option, Some, None, Result, Ok, Err, List, [], ◌∷◌, ⊤}
+use Rattle.std.specs.Prelude.{Bool, true, false, Option, Some, None, Result, Ok, Err, List}
 use Rattle.std.specs.Fn.{Mut}
 use Rattle.std.specs.Borrow.{Bor}
-use Rattle.fallible_iterator.specs.Traces.{Answered}
+use Rattle.fallible_iterator.specs.Traces.{Answered, item}
 use Rattle.fallible_iterator.specs.Contract.{Contract, Inverse}
 use Rattle.fallible_iterator.specs.Closures.{call_by_reference, takes_by_reference}
-use Rattle.fallible_itertools_adapters.specs.Holding.{HoldingTrace, holding_contract, held_beside, one_at_least}
-use Rattle.fallible_iterator.specs.Outcome.{Outcome}
-use Rattle.fallible_iterator.specs.Outcome.TheVariants.{Kept, LeftOut, Failure, End}
+use Rattle.fallible_itertools_adapters.specs.BeforeStop.{before_stop, held_hints, held_one}
+use Rattle.fallible_itertools_adapters.specs.Plan.{Making, Plan, bounded, calls, closure_contract, plan_meets}
+use Rattle.fallible_itertools_adapters.specs.Staged.{as_function, plan_does, staged}
+use Rattle.fallible_itertools_adapters.specs.Staging.{StagedTrace, one_made, stop_comes}
 use Rattle.fallible_itertools_adapters.specs.declared.dedup_by_key.DedupByKey.{DedupByKey}
 use Rattle.std.proofs.Common.{refl}
 
+-- the item that is held with its key
+abbrev pub keyed_item : {A K : Type 0} → Option (K × A) → Option A
+keyed_item (Some held) = Some held.1
+keyed_item None = None
+
+-- At a stop the held item comes, and nothing is held then.
+abbrev pub dedup_key_stops : {A K E : Type 0} → Option (K × A) → Option E → Making (Option (K × A)) A (Option E) E
+dedup_key_stops held stop = (before_stop (keyed_item held) stop, None)
+
 module _ {A K : Type 0} (eq : K → K → Bool) where
-  -- an item and its key that are held, beside the next item and its key
-  abbrev pub keyed_at : {E : Type 0} → K × A → K × A → Bool → Outcome A E → Option (K × A) → Type 0
-  keyed_at held this true o q = (o ≡ LeftOut) × (q ≡ Some held)
-  keyed_at held this false o q = (o ≡ Kept held.1) × (q ≡ Some this)
+  -- The held item with its key stays if the next one has an equal key; otherwise it comes, and the next one is held.
+  abbrev pub unless_same_key : {E : Type 0} → K × A → K × A → Bool → Making (Option (K × A)) A (Option E) E
+  unless_same_key held next true = (None, Some held)
+  unless_same_key held next false = (one_made (item held.1), Some next)
 
-  -- What becomes of an item by its key: it is left out if the key equals the one that is held, and otherwise held in its place; an item that has no key, since the closure failed, is lost, and nothing else is.
-  abbrev pub keyed_by : {E : Type 0} → Option (K × A) → A → Result K E → Outcome A E → Option (K × A) → Type 0
-  keyed_by held x (Err e) o q = (o ≡ Failure e) × (q ≡ held)
-  keyed_by None x (Ok k) o q = (o ≡ LeftOut) × (q ≡ Some (k, x))
-  keyed_by (Some held) x (Ok k) o q = keyed_at held (k, x) (eq held.0 k) o q
+  -- By the key of the next item, x; where the closure makes none, x is lost, and its failure is a stop.
+  abbrev pub keyed_by : {E : Type 0} → Option (K × A) → A → Result K E → Making (Option (K × A)) A (Option E) E
+  keyed_by held x (Err e) = dedup_key_stops held (Some e)
+  keyed_by None x (Ok k) = (None, Some (k, x))
+  keyed_by (Some held) x (Ok k) = unless_same_key held (k, x) (eq held.0 k)
 
-  module _ {F E : Type 0} (call : F → A → Result K E → F → Type 0) where
-    -- The first of items with equal keys is held, with its key, beside the closure, which is called once on each item.
-    abbrev pub dedup_key_asks : Option (K × A) × F → Option A → Outcome A E → Option (K × A) × F → Type 0
-    dedup_key_asks p (Some x) o q = (v : Result K E) × call p.1 x v q.1 × keyed_by p.0 x v o q.0
-    dedup_key_asks (None, f) None o q = (o ≡ End) × (q ≡ (None, f))
-    dedup_key_asks (Some held, f) None o q = (o ≡ Kept held.1) × (q ≡ (None, f))
+  -- The first of items with equal keys is held, with its key. The closure is called once on each item.
+  abbrev pub dedup_key_plan : {E : Type 0} → Option (K × A) → A → Plan A (Result K E) (Making (Option (K × A)) A (Option E) E)
+  dedup_key_plan held x = calls x (keyed_by held x)
 
+  module _ {F E : Type 0} (g : Mut F (Bor A × Unit {0}) (Result K E)) where
     -- `DedupByKey`: the first of adjacent items with equal keys, each where the next one that differs stands or a stop; the closure's failure is a stop.
-    abbrev pub DedupByKeyTrace : {S : Type 0} → (S → Answered A E → S → Type 0) → S × ((Option (K × A) × F) × Option (Option E)) → List (Answered A E) → S × ((Option (K × A) × F) × Option (Option E)) → Type 0
-    DedupByKeyTrace steps p trace q = HoldingTrace steps dedup_key_asks p trace q
+    abbrev pub DedupByKeyTrace : {S : Type 0} → (S → List (Answered A E) → S → Type 0) → S × ((Option (K × A) × F) × Option (Option E)) → List (Answered A E) → S × ((Option (K × A) × F) × Option (Option E)) → Type 0
+    DedupByKeyTrace traces p trace q = StagedTrace traces stop_comes (plan_meets (call_by_reference g) dedup_key_plan dedup_key_stops) p trace q
 
-  -- ---- what it lists
-
-  -- an item before what comes after it, where the keys differ
-  abbrev pub key_before : {E : Type 0} → K × A → Bool → List (Result A E) → List (Result A E) → List (Result A E)
-  key_before held true same other = same
-  key_before held false same other = Ok held.1 ∷ other
-
-  -- what stands before the rest, by the key of an item, beside one that may be held; `rest` is the list of what comes where that one is held, or none
-  abbrev pub key_at : {E : Type 0} → Option (K × A) → A → Result K E → (Option (K × A) → List (Result A E)) → List (Result A E)
-  key_at None x (Err e) rest = Err e ∷ rest None
-  key_at (Some held) x (Err e) rest = Ok held.1 ∷ Err e ∷ rest None
-  key_at None x (Ok k) rest = rest (Some (k, x))
-  key_at (Some held) x (Ok k) rest = key_before held (eq held.0 k) (rest (Some held)) (rest (Some (k, x)))
-
-  -- what `deduped_by_key` makes of the list, if an item with its key is held before it, or none is
-  unfoldable pub deduped_key_from : {E : Type 0} → (A → Result K E) → Option (K × A) → List (Result A E) → List (Result A E)
-  deduped_key_from h None [] = []
-  deduped_key_from h (Some held) [] = Ok held.1 ∷ []
-  deduped_key_from h held (Ok x ∷ l) = key_at held x (h x) (λ p. deduped_key_from h p l)
-  deduped_key_from h None (Err e ∷ l) = Err e ∷ deduped_key_from h None l
-  deduped_key_from h (Some held) (Err e ∷ l) = Ok held.1 ∷ Err e ∷ deduped_key_from h None l
+    -- `DedupByKey`'s contract
+    abbrev pub dedup_by_key_contract : {S : Type 0} → Contract S A E → Contract (S × ((Option (K × A) × F) × Option (Option E))) A E
+    dedup_by_key_contract m = closure_contract (bounded m) stop_comes (call_by_reference g) (takes_by_reference g) dedup_key_plan dedup_key_stops 1 held_one (held_hints held_one)
 
   -- The first of adjacent items with equal keys, which h makes; where h fails, its failure in the item's place. Before a failure comes the item that is held.
   unfoldable pub deduped_by_key : {E : Type 0} → (A → Result K E) → List (Result A E) → List (Result A E)
-  deduped_by_key h l = deduped_key_from h None l
-
--- the closure may be called on a reference to the item
-abbrev pub dedup_key_takes : {A F H : Type 0} → (F → A → Type 0) → H × F → Option A → Type 0
-dedup_key_takes takes p None = ⊤
-dedup_key_takes takes p (Some x) = takes p.1 x
-
--- `DedupByKey`'s contract
-abbrev pub dedup_by_key_contract : {S A K F E : Type 0} → (K → K → Bool) → Contract S A E → Mut F (Bor A × Unit {0}) (Result K E) → Contract (S × ((Option (K × A) × F) × Option (Option E))) A E
-dedup_by_key_contract eq m g = holding_contract m (dedup_key_asks eq (call_by_reference g)) (dedup_key_takes (takes_by_reference g)) held_beside (one_at_least m held_beside)
+  deduped_by_key h l = staged stop_comes (plan_does (as_function h) dedup_key_plan dedup_key_stops) (None, tt) l
 
 -- the source
 abbrev pub dedup_by_key_source : {I A E K F : Type 0} → DedupByKey I K F A E → I

@@ -1,38 +1,25 @@
 -- `DedupByWithCount`, which yields the first of adjacent items that a closure finds the same beside their number.
-use Rattle.std.specs.Prelude.{◌≡◌, ℕ, Bool, Option, Some, None, Result, List, ⊤}
+use Rattle.std.specs.Prelude.{ℕ, Bool, Option, Result, List}
 use Rattle.std.specs.Fn.{Mut}
 use Rattle.std.specs.Borrow.{Bor}
 use Rattle.fallible_iterator.specs.Traces.{Answered}
 use Rattle.fallible_iterator.specs.Contract.{Contract, Inverse}
 use Rattle.fallible_iterator.specs.Picking.{call_at_two, takes_at_two}
-use Rattle.fallible_itertools_adapters.specs.Holding.{HoldingTrace, holding_contract, held_beside, one_at_least}
-use Rattle.fallible_itertools_adapters.specs.RunCounts.{counted_same}
-use Rattle.fallible_iterator.specs.Outcome.{Outcome}
-use Rattle.fallible_iterator.specs.Outcome.TheVariants.{Kept, LeftOut, End}
+use Rattle.fallible_itertools_adapters.specs.BeforeStop.{held_hints, held_one}
+use Rattle.fallible_itertools_adapters.specs.Plan.{bounded, call_on_pair, closure_contract, plan_meets, takes_pair}
+use Rattle.fallible_itertools_adapters.specs.RunCounts.{count_plan, count_stops}
+use Rattle.fallible_itertools_adapters.specs.Staging.{StagedTrace, stop_comes}
 use Rattle.fallible_itertools_adapters.specs.declared.dedup_by_with_count.DedupByWithCount.{DedupByWithCount}
 use Rattle.std.proofs.Common.{refl}
 
-module _ {A F E : Type 0} (call : F → A → A → Result Bool E → F → Type 0) where
-  -- An item is held with its number beside the closure, which is called on references to it and the next one.
-  abbrev pub dedup_by_with_count_asks : Option (ℕ × A) × F → Option A → Outcome (ℕ × A) E → Option (ℕ × A) × F → Type 0
-  dedup_by_with_count_asks (None, f) (Some x) o q = (o ≡ LeftOut) × (q ≡ (Some (1, x), f))
-  dedup_by_with_count_asks (Some p, f) (Some x) o q = (v : Result Bool E) × call f p.1 x v q.1 × counted_same p x v o q.0
-  dedup_by_with_count_asks (None, f) None o q = (o ≡ End) × (q ≡ (None, f))
-  dedup_by_with_count_asks (Some p, f) None o q = (o ≡ Kept p) × (q ≡ (None, f))
-
+module _ {A F E : Type 0} (g : Mut F (Bor A × (Bor A × Unit {0})) (Result Bool E)) where
   -- `DedupByWithCount`: the first of adjacent items that are the same beside their number, each where the next one that differs stands or a stop; the closure's failure is a stop.
-  abbrev pub DedupByWithCountTrace : {S : Type 0} → (S → Answered A E → S → Type 0) → S × ((Option (ℕ × A) × F) × Option (Option E)) → List (Answered (ℕ × A) E) → S × ((Option (ℕ × A) × F) × Option (Option E)) → Type 0
-  DedupByWithCountTrace steps p trace q = HoldingTrace steps dedup_by_with_count_asks p trace q
+  abbrev pub DedupByWithCountTrace : {S : Type 0} → (S → List (Answered A E) → S → Type 0) → S × ((Option (ℕ × A) × F) × Option (Option E)) → List (Answered (ℕ × A) E) → S × ((Option (ℕ × A) × F) × Option (Option E)) → Type 0
+  DedupByWithCountTrace traces p trace q = StagedTrace traces stop_comes (plan_meets (call_on_pair (call_at_two g)) count_plan count_stops) p trace q
 
--- the closure may be called on references to what is held and the item
-abbrev pub dedup_by_with_count_takes : {A F : Type 0} → (F → A → A → Type 0) → Option (ℕ × A) × F → Option A → Type 0
-dedup_by_with_count_takes takes (None, f) asked = ⊤
-dedup_by_with_count_takes takes (Some p, f) None = ⊤
-dedup_by_with_count_takes takes (Some p, f) (Some x) = takes f p.1 x
-
--- `DedupByWithCount`'s contract
-abbrev pub dedup_by_with_count_contract : {S A F E : Type 0} → Contract S A E → Mut F (Bor A × (Bor A × Unit {0})) (Result Bool E) → Contract (S × ((Option (ℕ × A) × F) × Option (Option E))) (ℕ × A) E
-dedup_by_with_count_contract m g = holding_contract m (dedup_by_with_count_asks (call_at_two g)) (dedup_by_with_count_takes (takes_at_two g)) held_beside (one_at_least m held_beside)
+  -- `DedupByWithCount`'s contract: the closure may be called on references to what is held and each item that may come.
+  abbrev pub dedup_by_with_count_contract : {S : Type 0} → Contract S A E → Contract (S × ((Option (ℕ × A) × F) × Option (Option E))) (ℕ × A) E
+  dedup_by_with_count_contract m = closure_contract (bounded m) stop_comes (call_on_pair (call_at_two g)) (takes_pair (takes_at_two g)) count_plan count_stops 1 held_one (held_hints held_one)
 
 -- the source
 abbrev pub dedup_by_with_count_source : {I A E F : Type 0} → DedupByWithCount I F A E → I

@@ -7,8 +7,6 @@ pub mod Copied
 pub mod Dedup
 pub mod DedupBy
 pub mod DedupByKey
-pub mod DedupByWithCount
-pub mod DedupWithCount
 pub mod Duplicates
 pub mod ErrInto
 pub mod FuseAtFailure
@@ -31,6 +29,7 @@ pub mod PeekingTakeWhile
 pub mod PeekingTraces
 pub mod Plan
 pub mod Positions
+pub mod RunCounts
 pub mod Sides
 pub mod SidesTraces
 pub mod Staged

@@ -1,5 +1,5 @@
 -- What a stage lists, by what it makes of each answer of its source.
-use Rattle.std.specs.Prelude.{Option, Some, None, Result, Ok, Err, List, [], ◌∷◌}
+use Rattle.std.specs.Prelude.{◌≡◌, Option, Some, None, Result, Ok, Err, List, [], ◌∷◌}
 use Rattle.fallible_iterator.specs.Traces.{Answered, end}
 use Rattle.fallible_iterator.specs.Lists.{result_answer}
 use Rattle.fallible_itertools_adapters.specs.Staging.{Made, due_comes}
@@ -46,3 +46,7 @@ abbrev pub plan_does : {Z Q R H X B L E : Type 0} → (Z → Q → R × Z) → (
 plan_does acts plan stops p (Ok (Some x)) = followed acts (plan p.0 x) p.1
 plan_does acts plan stops p (Ok None) = beside_state p.1 (stops p.0 None)
 plan_does acts plan stops p (Err e) = beside_state p.1 (stops p.0 (Some e))
+
+-- a call of the function g
+abbrev pub calls_function : {Q R : Type 0} → (Q → R) → Unit {0} → Q → R → Unit {0} → Type 0
+calls_function g u q v w = v ≡ g q

@@ -1,12 +1,12 @@
 -- `WithPosition`, which yields each item with its position among the items between two stops.
-use Rattle.std.specs.Prelude.{◌≡◌, ℕ, Bool, true, false, Option, Some, None, Result, Ok, Err, List, [], ◌∷◌, ⊤}
-use Rattle.fallible_iterator.specs.Traces.{Answered}
+use Rattle.std.specs.Prelude.{ℕ, Bool, true, false, Option, Some, None, Result, List}
+use Rattle.fallible_iterator.specs.Traces.{Answered, item}
 use Rattle.fallible_iterator.specs.Contract.{Contract, Inverse}
 use Rattle.fallible_iterator.specs.Hints.{hint_sum}
-use Rattle.fallible_itertools_adapters.specs.BeforeStop.{held_one}
-use Rattle.fallible_itertools_adapters.specs.Holding.{HintUnlessEnd, HoldingTrace, filling_contract}
-use Rattle.fallible_iterator.specs.Outcome.{Outcome}
-use Rattle.fallible_iterator.specs.Outcome.TheVariants.{Kept, LeftOut, End}
+use Rattle.fallible_itertools_adapters.specs.BeforeStop.{before_stop, held_one, hint_unless_end}
+use Rattle.fallible_itertools_adapters.specs.Plan.{HintPlan, Making, Plan, calls, calls_nothing, makes, plan_contract, plan_meets}
+use Rattle.fallible_itertools_adapters.specs.Staged.{as_function, plan_does, staged}
+use Rattle.fallible_itertools_adapters.specs.Staging.{StagedTrace, one_made, stop_comes}
 use Rattle.fallible_itertools_adapters.specs.declared.with_position.Position.{Position}
 use Rattle.fallible_itertools_adapters.specs.declared.with_position.Position.TheVariants.{First, Middle, Last, Only}
 use Rattle.fallible_itertools_adapters.specs.declared.with_position.WithPosition.{WithPosition}
@@ -23,45 +23,41 @@ position_before_stop true = Last
 position_before_stop false = Only
 
 -- An item is held until another one or a stop comes, and whether an item since the last stop came before it.
-abbrev pub position_asks : {A E : Type 0} → Option (Bool × A) → Option A → Outcome (Position × A) E → Option (Bool × A) → Type 0
-position_asks None (Some x) o q = (o ≡ LeftOut) × (q ≡ Some (false, x))
-position_asks (Some p) (Some x) o q = (o ≡ Kept (position_before_item p.0, p.1)) × (q ≡ Some (true, x))
-position_asks None None o q = (o ≡ End) × (q ≡ None)
-position_asks (Some p) None o q = (o ≡ Kept (position_before_stop p.0, p.1)) × (q ≡ None)
+abbrev pub position_plan : {A E : Type 0} → Option (Bool × A) → A → Plan (Unit {0}) (Unit {0}) (Making (Option (Bool × A)) (Position × A) (Option E) E)
+position_plan None x = makes (None, Some (false, x))
+position_plan (Some p) x = makes (one_made (item (position_before_item p.0, p.1)), Some (true, x))
 
--- `WithPosition`: each item with its position, where the next item stands or a stop.
-abbrev pub WithPositionTrace : {S A E : Type 0} → (S → Answered A E → S → Type 0) → S × (Option (Bool × A) × Option (Option E)) → List (Answered (Position × A) E) → S × (Option (Bool × A) × Option (Option E)) → Type 0
-WithPositionTrace steps p trace q = HoldingTrace steps position_asks p trace q
+-- what is held, with its position before a stop
+abbrev pub positioned_last : {A : Type 0} → Option (Bool × A) → Option (Position × A)
+positioned_last (Some p) = Some (position_before_stop p.0, p.1)
+positioned_last None = None
+
+-- At a stop what is held comes, and nothing is held then.
+abbrev pub position_stops : {A E : Type 0} → Option (Bool × A) → Option E → Making (Option (Bool × A)) (Position × A) (Option E) E
+position_stops held stop = (before_stop (positioned_last held) stop, None)
 
 -- None if an end is due, and otherwise the source's hint and the item that is held, since every item is yielded.
-abbrev pub with_position_hints : {S A E : Type 0} → Contract S A E → S × (Option (Bool × A) × Option (Option E)) → ℕ × Option ℕ → Type 0
-with_position_hints m (s, (p, due)) h = HintUnlessEnd due (λ j. (k : ℕ × Option ℕ) × m.hints s k × (j ≡ hint_sum k (held_one p, Some (held_one p)))) h
+abbrev pub position_hint : {A E : Type 0} → Option (Bool × A) → Option (Option E) → HintPlan
+position_hint held due = hint_unless_end (calls tt (λ k. hint_sum k (held_one held, Some (held_one held)))) due
+
+-- `WithPosition`: each item with its position, where the next item stands or a stop.
+abbrev pub WithPositionTrace : {S A E : Type 0} → (S → List (Answered A E) → S → Type 0) → S × ((Option (Bool × A) × Unit {0}) × Option (Option E)) → List (Answered (Position × A) E) → S × ((Option (Bool × A) × Unit {0}) × Option (Option E)) → Type 0
+WithPositionTrace traces p trace q = StagedTrace traces stop_comes (plan_meets calls_nothing position_plan position_stops) p trace q
 
 -- `WithPosition`'s contract. It requires no bound of the source: one draw leaves out one item at most.
-abbrev pub with_position_contract : {S A E : Type 0} → Contract S A E → Contract (S × (Option (Bool × A) × Option (Option E))) (Position × A) E
-with_position_contract m = filling_contract m position_asks (λ p x. ⊤) held_one (with_position_hints m)
-
--- ---- what it lists
-
--- what comes where an item is held before the list, or none: before a failure and at the end what is held
-unfoldable pub positioned_at : {A E : Type 0} → Option (Bool × A) → List (Result A E) → List (Result (Position × A) E)
-positioned_at None [] = []
-positioned_at (Some p) [] = Ok (position_before_stop p.0, p.1) ∷ []
-positioned_at None (Ok x ∷ l) = positioned_at (Some (false, x)) l
-positioned_at (Some p) (Ok x ∷ l) = Ok (position_before_item p.0, p.1) ∷ positioned_at (Some (true, x)) l
-positioned_at None (Err e ∷ l) = Err e ∷ positioned_at None l
-positioned_at (Some p) (Err e ∷ l) = Ok (position_before_stop p.0, p.1) ∷ Err e ∷ positioned_at None l
+abbrev pub with_position_contract : {S A E : Type 0} → Contract S A E → Contract (S × ((Option (Bool × A) × Unit {0}) × Option (Option E))) (Position × A) E
+with_position_contract m = plan_contract m stop_comes calls_nothing position_plan position_stops 1 held_one position_hint
 
 -- each item with its position among the items there; a failure parts them
 unfoldable pub positioned : {A E : Type 0} → List (Result A E) → List (Result (Position × A) E)
-positioned l = positioned_at None l
+positioned l = staged stop_comes (plan_does (as_function (λ u. u)) position_plan position_stops) (None, tt) l
 
 -- the source
 abbrev pub with_position_source : {I A E : Type 0} → WithPosition I A E → I
 with_position_source s = s.it
 
 -- the source, the item that is held with whether one came before it, and the stop that is due
-abbrev pub with_position_parts : {I A E : Type 0} → WithPosition I A E → I × (Option (Bool × A) × Option (Option E))
+abbrev pub with_position_parts : {I A E : Type 0} → WithPosition I A E → I × ((Option (Bool × A) × Unit {0}) × Option (Option E))
 with_position_parts s = (s.it, s.stage)
 
 -- and back

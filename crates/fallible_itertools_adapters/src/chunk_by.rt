@@ -1,12 +1,20 @@
 // The adapter that yields groups of adjacent items with equal keys.
-ghost use Rattle.std.specs.Prelude.{Option, Result, None, ◌≡◌};
+ghost use Rattle.std.specs.Prelude.{Option, Result, None, Ok, ◌≡◌};
+ghost use Rattle.std.specs.declared.alloc.Global.{Global};
+ghost use Rattle.std.specs.declared.vec.Vec.{Vec};
 ghost use Rattle.fallible_iterator.specs.Contract.{parts_as};
 ghost use Rattle.fallible_iterator.specs.Laws.Contract.{lawful_parts};
-ghost use Rattle.fallible_itertools_adapters.specs.ChunkBy.{chunk_by_asks, chunk_by_contract, chunk_by_made, chunk_by_parts, group_at_stop, group_by, group_held, key_takes};
-ghost use Rattle.fallible_itertools_adapters.specs.Laws.ChunkBy.{holds_chunk_by, lawful_chunk_by};
+ghost use Rattle.fallible_itertools_adapters.specs.Batch.{Put, Puts};
+ghost use Rattle.fallible_itertools_adapters.specs.BeforeStop.{held_one};
+ghost use Rattle.fallible_itertools_adapters.specs.ChunkBy.{chunk_by_contract, chunk_by_made, chunk_by_parts, chunk_by_plan, chunk_by_stops, group_by, joined, puts_by_key, takes_key};
+ghost use Rattle.fallible_itertools_adapters.specs.Laws.ChunkBy.{is_stage_chunk_by, lawful_chunk_by};
+ghost use Rattle.fallible_itertools_adapters.specs.Plan.{Makes, plan_item, plan_stop, plan_takes};
+ghost use Rattle.fallible_itertools_adapters.specs.Staging.{stop_comes};
 
-use crate::holding::{Hold, drive_holding, with_held};
-use fallible_iterator::extending::{FirstTurn, Outcome, alone, pushed};
+use crate::staging::{
+    AnswerAndDue, Made, Stage, Stop, drive_stage, let_go, next_until, one, stopped, with_held,
+};
+use fallible_iterator::extending::{alone, pushed};
 use fallible_iterator::{FallibleIterator, Turn};
 use std::alloc::{AllocError, Global};
 
@@ -17,20 +25,20 @@ use std::alloc::{AllocError, Global};
 pub struct ChunkBy<I: FallibleIterator, K, F> {
     pub(crate) it: I,
     pub(crate) alloc: Global,
-    // the closure, and the buffered group, if there is one; and the stop that is due: `Ok(None)`, or a failure
-    pub(crate) stage: ((F, Option<(K, Vec<I::Item>)>), Option<Option<I::Error>>),
+    // the buffered group, if there is one, and the closure; and the stop that is due: `Ok(None)`, or a failure
+    pub(crate) stage: ((Option<(K, Vec<I::Item>)>, F), Option<Stop<I::Error>>),
 }
 
 impl<I: FallibleIterator, K, F> ChunkBy<I, K, F> {
     /// Creates it. It draws nothing.
     #[inline(always)]
     pub fn new(it: I, alloc: Global, key: F) -> ChunkBy<I, K, F>
-        ensures { chunk_by_parts result ≡ (it, ((key, None), None)) }
+        ensures { chunk_by_parts result ≡ (it, ((None, key), None)) }
     {
         ChunkBy {
             it,
             alloc,
-            stage: ((key, None), None),
+            stage: ((None, key), None),
         }
     }
 }
@@ -53,13 +61,14 @@ where
 
     /// Returns the stop that is due, without a draw. Otherwise it draws until an item has another key than the buffered group, or a stop comes.
     fn next(&mut self) -> Result<Option<(K, Vec<I::Item>)>, I::Error> {
-        self.drive(&mut (), &FirstTurn)
+        let adapter = ChunkByStage { alloc: self.alloc };
+        next_until(&mut self.it, &mut self.stage, &adapter)
     }
 
     fn size_hint(&self) -> (usize, Option<usize>) {
         match self.stage.1 {
             Some(None) => (0, Some(0)),
-            _ => with_held(self.it.size_hint(), self.stage.0.1.is_some()),
+            _ => with_held(self.it.size_hint(), self.stage.0.0.is_some()),
         }
     }
 
@@ -68,8 +77,8 @@ where
         state: &mut C,
         turn: &T,
     ) -> Result<Option<R>, I::Error> {
-        let adapter = ChunkByHold { alloc: self.alloc };
-        drive_holding(&mut self.it, &mut self.stage, &adapter, state, turn)
+        let adapter = ChunkByStage { alloc: self.alloc };
+        drive_stage(&mut self.it, &mut self.stage, &adapter, state, turn)
     }
 
     ghost lawful = { lawful_parts chunk_by_made
@@ -78,61 +87,81 @@ where
 
 // What becomes of an item after the buffered group.
 #[derive(Drop)]
-struct ChunkByHold {
+struct ChunkByStage {
     alloc: Global,
 }
 
-impl<X: Drop, K: PartialEq + Drop, E: From<AllocError>, F: FnMut(&X) -> Result<K, E>> Hold<
-    (F, Option<(K, Vec<X>)>),
+impl<X: Drop, K: PartialEq + Drop, E: From<AllocError>, F: FnMut(&X) -> Result<K, E>> Stage<
+    (Option<(K, Vec<X>)>, F),
     X,
     E,
-> for ChunkByHold {
+> for ChunkByStage {
     type Kept = (K, Vec<X>);
 
-    ghost can_ask = { λ _ p x. key_takes F.FnMut p x };
+    type Due = Stop<E>;
 
-    ghost asks = { λ _ p x o q. chunk_by_asks E.from_gives K.eq F.FnMut p x o q };
+    ghost comes = { λ _ stop. stop_comes stop };
 
-    ghost held = { λ _ p. group_held p };
+    ghost can_meet = { λ _ p x. plan_takes (takes_key F.FnMut) (chunk_by_plan {E = E} K.eq) p x };
+
+    ghost items = { λ _ p x made q. plan_item (puts_by_key E.from_gives K.eq F.FnMut)
+        (chunk_by_plan K.eq) chunk_by_stops p x made q };
+
+    ghost stops = { λ _ p stop made q. plan_stop (puts_by_key E.from_gives K.eq F.FnMut)
+        (chunk_by_plan K.eq) chunk_by_stops p stop made q };
+
+    ghost most = { λ _. 1 };
+
+    ghost held = { λ _ p. held_one p.0 };
 
     #[inline(always)]
-    fn ask(&self, holds: &mut (F, Option<(K, Vec<X>)>), asked: Option<X>) -> Outcome<(K, Vec<X>), E>
-        requires { key_takes F.FnMut holds.old asked }
-        ensures { chunk_by_asks E.from_gives K.eq F.FnMut holds.old asked result holds.new }
+    fn on_item(&self, p: &mut (Option<(K, Vec<X>)>, F), item: X) -> Made<(K, Vec<X>), Stop<E>, E>
+        requires { plan_takes (takes_key F.FnMut) (chunk_by_plan {E = E} K.eq) p.old item }
+        ensures { plan_item (puts_by_key E.from_gives K.eq F.FnMut) (chunk_by_plan K.eq)
+            chunk_by_stops p.old item result p.new }
     {
-        match asked {
-            Some(x) => {
-                let key = (holds.0)(&x);
-                grouped(self.alloc, &mut holds.1, x, key)
-            }
-            None => stopped(&mut holds.1),
+        match (p.1)(&item) {
+            Ok(key) => grouped(self.alloc, &mut p.0, key, item),
+            Err(e) => let_go(p.0.take(), Some(e)),
         }
     }
 
-    ghost can_stop = { λ _ p. tt };
+    #[inline(always)]
+    fn on_stop(
+        &self,
+        p: &mut (Option<(K, Vec<X>)>, F),
+        stop: Stop<E>,
+    ) -> Made<(K, Vec<X>), Stop<E>, E>
+        ensures { plan_stop (puts_by_key E.from_gives K.eq F.FnMut) (chunk_by_plan K.eq)
+            chunk_by_stops p.old stop result p.new }
+    {
+        let_go(p.0.take(), stop)
+    }
 
-    ghost holds = { λ _. holds_chunk_by E.from_gives K.eq F.FnMut };
+    #[inline(always)]
+    fn answer_due(&self, due: Stop<E>) -> AnswerAndDue<(K, Vec<X>), Stop<E>, E> {
+        (stopped(due), None)
+    }
+
+    ghost is_stage = { λ _. is_stage_chunk_by E.from_gives K.eq F.FnMut };
 }
 
-// What becomes of an item by its key. A new group has room for as many items as the one that it follows, up to 1024.
+// What becomes of an item of that key. A new group has room for as many items as the one that it follows, up to 1024.
 fn grouped<X: Drop, K: PartialEq + Drop, E: From<AllocError>>(
     alloc: Global,
     group: &mut Option<(K, Vec<X>)>,
+    key: K,
     item: X,
-    key: Result<K, E>,
-) -> Outcome<(K, Vec<X>), E>
-    ensures { group_by E.from_gives K.eq group.old item key result group.new }
+) -> Made<(K, Vec<X>), Stop<E>, E>
+    ensures { (v : Put (Vec X Global) E) × Puts E.from_gives (joined K.eq group.old key) item v
+        × Makes (group_by K.eq group.old (Ok (key, v))) result group.new }
 {
-    let key = match key {
-        Ok(key) => key,
-        Err(e) => return Outcome::Failure(e),
-    };
     let room = match group {
         Some((of, items)) => {
             if *of == key {
                 return match pushed(items, item) {
-                    Ok(()) => Outcome::LeftOut,
-                    Err(refused) => Outcome::Failure(E::from(refused)),
+                    Ok(()) => None,
+                    Err(refused) => let_go(group.take(), Some(E::from(refused))),
                 };
             }
             items.len()
@@ -141,19 +170,9 @@ fn grouped<X: Drop, K: PartialEq + Drop, E: From<AllocError>>(
     };
     match alone(alloc, room, item) {
         Ok(first) => match group.replace((key, first)) {
-            Some(whole) => Outcome::Kept(whole),
-            None => Outcome::LeftOut,
+            Some(whole) => one(Ok(Some(whole))),
+            None => None,
         },
-        Err(refused) => Outcome::Failure(E::from(refused)),
-    }
-}
-
-// What becomes of a stop.
-fn stopped<X: Drop, K: Drop, E>(group: &mut Option<(K, Vec<X>)>) -> Outcome<(K, Vec<X>), E>
-    ensures { group_at_stop group.old result group.new }
-{
-    match group.take() {
-        Some(group) => Outcome::Kept(group),
-        None => Outcome::End,
+        Err(refused) => let_go(group.take(), Some(E::from(refused))),
     }
 }

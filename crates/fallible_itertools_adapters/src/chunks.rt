@@ -2,14 +2,17 @@
 ghost use Rattle.std.specs.Prelude.{◌≡◌, ◌+◌, ⊤, MatchResult, None, Option, Result};
 ghost use Rattle.fallible_iterator.specs.Contract.{parts_as};
 ghost use Rattle.fallible_iterator.specs.Laws.Contract.{lawful_parts};
-ghost use Rattle.fallible_itertools_adapters.specs.Batch.{NoRoom, SameHeld};
-ghost use Rattle.fallible_itertools_adapters.specs.Chunks.{Grows, LetsGo, batch_held, begun, room_left, chunks_asks, chunks_contract, chunks_made, chunks_parts};
+ghost use Rattle.fallible_itertools_adapters.specs.Batch.{GrownTo, NoRoom, SameHeld};
 ghost use Rattle.fallible_itertools_adapters.specs.BeforeStop.{held_one};
-ghost use Rattle.fallible_itertools_adapters.specs.Holding.{holding_step};
-ghost use Rattle.fallible_itertools_adapters.specs.Laws.Chunks.{holds_chunks, lawful_chunks};
+ghost use Rattle.fallible_itertools_adapters.specs.Chunks.{batch_held, begun, chunks_contract, chunks_made, chunks_parts, chunks_plan, chunks_stops, puts, room_left, vec_count};
+ghost use Rattle.fallible_itertools_adapters.specs.Laws.Chunks.{is_stage_chunks, lawful_chunks};
+ghost use Rattle.fallible_itertools_adapters.specs.Plan.{plan_item, plan_meets, plan_stop};
+ghost use Rattle.fallible_itertools_adapters.specs.Staging.{DrawsUpTo, stop_comes};
 
-use crate::holding::{Hold, at_stop, drive_holding, with_held};
-use fallible_iterator::extending::{Outcome, alone, pushed};
+use crate::staging::{
+    AnswerAndDue, Made, Stage, Stop, drive_stage, let_go, made_of, one, put_due, stopped, with_held,
+};
+use fallible_iterator::extending::{alone, pushed};
 use fallible_iterator::{FallibleIterator, Turn};
 use std::alloc::{AllocError, Global};
 
@@ -21,19 +24,19 @@ pub struct Chunks<I: FallibleIterator> {
     pub(crate) it: I,
     pub(crate) alloc: Global,
     // how many items a batch has, and the buffered batch, if it has any; and the stop that is due: `Ok(None)`, or a failure
-    pub(crate) stage: ((usize, Option<Vec<I::Item>>), Option<Option<I::Error>>),
+    pub(crate) stage: (((usize, Option<Vec<I::Item>>), ()), Option<Stop<I::Error>>),
 }
 
 impl<I: FallibleIterator> Chunks<I> {
     /// Creates it. It draws nothing.
     #[inline(always)]
     pub fn new(it: I, alloc: Global, n: usize) -> Chunks<I>
-        ensures { chunks_parts result ≡ (it, ((n, None), None)) }
+        ensures { chunks_parts result ≡ (it, (((n, None), tt), None)) }
     {
         Chunks {
             it,
             alloc,
-            stage: ((n, None), None),
+            stage: (((n, None), ()), None),
         }
     }
 }
@@ -52,11 +55,12 @@ where
     /// Returns the stop that is due, without a draw. Otherwise it draws until the batch has n items, or a stop comes.
     fn next(&mut self) -> Result<Option<Vec<I::Item>>, I::Error> {
         match self.stage.1.take() {
-            Some(Some(e)) => Err(e),
-            Some(None) => Ok(None),
+            Some(stop) => stopped(stop),
             None => {
-                let adapter = ChunksHold { alloc: self.alloc };
-                filled(&mut self.it, &mut self.stage.0, &mut self.stage.1, &adapter)
+                let adapter = ChunksStage { alloc: self.alloc };
+                let (answer, due) = filled(&mut self.it, &mut self.stage.0, &adapter);
+                put_due(&mut self.stage.1, due);
+                answer
             }
         }
     }
@@ -66,8 +70,8 @@ where
             Some(None) => (0, Some(0)),
             _ => {
                 let hint = self.it.size_hint();
-                let low = batches(hint.0, self.stage.0.0, &self.stage.0.1);
-                (low, with_held(hint, self.stage.0.1.is_some()).1)
+                let low = batches(hint.0, self.stage.0.0.0, &self.stage.0.0.1);
+                (low, with_held(hint, self.stage.0.0.1.is_some()).1)
             }
         }
     }
@@ -77,79 +81,102 @@ where
         state: &mut C,
         turn: &K,
     ) -> Result<Option<R>, I::Error> {
-        let adapter = ChunksHold { alloc: self.alloc };
-        drive_holding(&mut self.it, &mut self.stage, &adapter, state, turn)
+        let adapter = ChunksStage { alloc: self.alloc };
+        drive_stage(&mut self.it, &mut self.stage, &adapter, state, turn)
     }
 
     ghost lawful = { lawful_parts chunks_made (lawful_chunks I.Error.from_gives I.lawful) };
 }
 
-// Draws until a batch is full or a stop comes: at most as often as a batch has items. No stop is due.
+// Draws until a batch is full or a stop comes, at most as often as a batch has items: the answer, and what is due after it. Nothing is due before.
 fn filled<I: FallibleIterator>(
     it: &mut I,
-    batch: &mut (usize, Option<Vec<I::Item>>),
-    due: &mut Option<Option<I::Error>>,
-    adapter: &ChunksHold,
-) -> Result<Option<Vec<I::Item>>, I::Error>
+    held: &mut ((usize, Option<Vec<I::Item>>), ()),
+    adapter: &ChunksStage,
+) -> AnswerAndDue<Vec<I::Item>, Stop<I::Error>, I::Error>
 where
     I::Item: Drop,
     I::Error: Drop + From<AllocError>,
-    requires none_due { due.old ≡ None }
     requires can_next { I.contract.can_next it.old }
-    ensures { holding_step (chunks_asks I.Error.from_gives) I.contract.steps
-        (it.old, (batch.old, None)) result (it.new, (batch.new, due.new)) }
+    ensures { DrawsUpTo stop_comes
+        (plan_meets (puts I.Error.from_gives) (chunks_plan vec_count) chunks_stops) I.contract.steps
+        it.old held.old result.0 it.new (held.new, result.1) }
 {
     loop {
-        match it.draw() {
-            Ok(Some(x)) => match adapter.ask(batch, Some(x)) {
-                Outcome::Kept(whole) => return Ok(Some(whole)),
-                Outcome::LeftOut => {}
-                Outcome::Failure(e) => return at_stop(Some(e), batch, due, adapter),
-                Outcome::End => unreachable!(),
-            },
-            Ok(None) => return at_stop(None, batch, due, adapter),
-            Err(e) => return at_stop(Some(e), batch, due, adapter),
+        match made_of(it.draw(), held, adapter) {
+            Some(made) => return made,
+            None => {}
         }
     }
 }
 
 // What becomes of an item after the buffered batch.
 #[derive(Drop)]
-struct ChunksHold {
+struct ChunksStage {
     alloc: Global,
 }
 
-impl<X: Drop, E: From<AllocError>> Hold<(usize, Option<Vec<X>>), X, E> for ChunksHold {
+impl<X: Drop, E: From<AllocError>> Stage<((usize, Option<Vec<X>>), ()), X, E> for ChunksStage {
     type Kept = Vec<X>;
 
-    ghost can_ask = { λ _ p x. ⊤ };
+    type Due = Stop<E>;
 
-    ghost asks = { λ _ p x o q. chunks_asks E.from_gives p x o q };
+    ghost comes = { λ _ stop. stop_comes stop };
 
-    ghost held = { λ _ p. batch_held p };
+    ghost can_meet = { λ _ p x. ⊤ };
+
+    ghost items = { λ _ p x made q. plan_item (puts E.from_gives) (chunks_plan vec_count) chunks_stops p
+        x made q };
+
+    ghost stops = { λ _ p stop made q. plan_stop (puts E.from_gives) (chunks_plan vec_count)
+        chunks_stops p stop made q };
+
+    ghost most = { λ _. 1 };
+
+    ghost held = { λ _ p. batch_held p.0 };
 
     #[inline(always)]
-    fn ask(&self, holds: &mut (usize, Option<Vec<X>>), asked: Option<X>) -> Outcome<Vec<X>, E>
-        ensures { chunks_asks E.from_gives holds.old asked result holds.new }
+    fn on_item(
+        &self,
+        p: &mut ((usize, Option<Vec<X>>), ()),
+        item: X,
+    ) -> Made<Vec<X>, Stop<E>, E>
+        ensures { plan_item (puts E.from_gives) (chunks_plan vec_count) chunks_stops p.old item result
+            p.new }
     {
-        match asked {
-            Some(x) => match grown(self.alloc, holds.0, &mut holds.1, x) {
-                Ok(count) => {
-                    if count < holds.0 {
-                        Outcome::LeftOut
-                    } else {
-                        let_go(&mut holds.1)
+        match grown(self.alloc, p.0.0, &mut p.0.1, item) {
+            Ok(count) => {
+                if count < p.0.0 {
+                    None
+                } else {
+                    match p.0.1.take() {
+                        Some(whole) => one(Ok(Some(whole))),
+                        None => unreachable!(),
                     }
                 }
-                Err(refused) => Outcome::Failure(E::from(refused)),
-            },
-            None => let_go(&mut holds.1),
+            }
+            Err(refused) => let_go(p.0.1.take(), Some(E::from(refused))),
         }
     }
 
-    ghost can_stop = { λ _ p. tt };
+    #[inline(always)]
+    fn on_stop(
+        &self,
+        p: &mut ((usize, Option<Vec<X>>), ()),
+        stop: Stop<E>,
+    ) -> Made<Vec<X>, Stop<E>, E>
+        ensures { plan_stop (puts E.from_gives) (chunks_plan vec_count) chunks_stops p.old stop result
+            p.new }
+    {
+        let_go(p.0.1.take(), stop)
+    }
 
-    ghost holds = { λ _. holds_chunks E.from_gives };
+    #[inline(always)]
+    fn answer_due(&self, due: Stop<E>) -> AnswerAndDue<Vec<X>, Stop<E>, E> {
+        (stopped(due), None)
+    }
+
+    ghost is_stage = { λ _. is_stage_chunks E.from_gives };
 }
 
 // Appends the item to the buffered batch, or to a new one with room for n, and returns how many items the batch has then.
@@ -160,7 +187,7 @@ fn grown<X: Drop>(
     held: &mut Option<Vec<X>>,
     item: X,
 ) -> Result<usize, AllocError>
-    ensures { MatchResult result (Grows held.old item held.new)
+    ensures { MatchResult result (GrownTo held.old item held.new)
         (λ _. NoRoom held.old × SameHeld held.old held.new) }
 {
     match held {
@@ -174,17 +201,6 @@ fn grown<X: Drop>(
             *held = Some(batch);
             Ok(count)
         }
-    }
-}
-
-// What becomes of the buffered batch at a stop, or once it is full: it is yielded, if there is one.
-#[inline(always)]
-fn let_go<X: Drop, E>(held: &mut Option<Vec<X>>) -> Outcome<Vec<X>, E>
-    ensures { LetsGo held.old result held.new }
-{
-    match held.take() {
-        Some(batch) => Outcome::Kept(batch),
-        None => Outcome::End,
     }
 }
 

@@ -1,14 +1,17 @@
 // The adapter that merges adjacent items.
 ghost use Rattle.std.specs.Prelude.{Option, Result, None, ◌≡◌};
 ghost use Rattle.fallible_iterator.specs.Contract.{parts_as};
-ghost use Rattle.fallible_iterator.specs.Folds.{call_with, takes_with};
 ghost use Rattle.fallible_iterator.specs.Laws.Contract.{lawful_parts};
-ghost use Rattle.fallible_itertools_adapters.specs.Coalesce.{coalesce_asks, coalesce_contract, coalesce_made, coalesce_parts, coalesce_takes};
-ghost use Rattle.fallible_itertools_adapters.specs.Holding.{held_beside};
-ghost use Rattle.fallible_itertools_adapters.specs.Laws.Coalesce.{coalesce_takes_stop, holds_coalesce, lawful_coalesce};
+ghost use Rattle.fallible_itertools_adapters.specs.BeforeStop.{held_one};
+ghost use Rattle.fallible_itertools_adapters.specs.Coalesce.{coalesce_call, coalesce_contract, coalesce_made, coalesce_parts, coalesce_plan, coalesce_takes, coalesced_by};
+ghost use Rattle.fallible_itertools_adapters.specs.Dedup.{dedup_stops};
+ghost use Rattle.fallible_itertools_adapters.specs.Laws.Coalesce.{is_stage_coalesce, lawful_coalesce};
+ghost use Rattle.fallible_itertools_adapters.specs.Plan.{Makes, plan_item, plan_stop, plan_takes};
+ghost use Rattle.fallible_itertools_adapters.specs.Staging.{stop_comes};
 
-use crate::holding::{Hold, drive_holding, with_held};
-use fallible_iterator::extending::{FirstTurn, Outcome};
+use crate::staging::{
+    AnswerAndDue, Made, Stage, Stop, drive_stage, let_go, next_until, one, stopped, with_held,
+};
 use fallible_iterator::{FallibleIterator, Turn};
 
 /// Adjacent items, merged where the closure makes one of two. The item merged so far is buffered until the closure keeps two apart, or a stop comes: `Ok(None)` or a failure, which the next call returns.
@@ -16,7 +19,7 @@ use fallible_iterator::{FallibleIterator, Turn};
 pub struct Coalesce<I: FallibleIterator, F> {
     pub(crate) it: I,
     // the buffered item, and the closure; and the stop that is due: `Ok(None)`, or a failure
-    pub(crate) stage: ((Option<I::Item>, F), Option<Option<I::Error>>),
+    pub(crate) stage: ((Option<I::Item>, F), Option<Stop<I::Error>>),
 }
 
 impl<I: FallibleIterator, F> Coalesce<I, F> {
@@ -44,11 +47,11 @@ where
 
     type Error = I::Error;
 
-    ghost contract = { parts_as coalesce_parts (coalesce_contract I.contract F.FnMut) };
+    ghost contract = { parts_as coalesce_parts (coalesce_contract F.FnMut I.contract) };
 
     /// Returns the stop that is due, without a draw. Otherwise it draws until the closure keeps two items apart, or a stop comes.
     fn next(&mut self) -> Result<Option<I::Item>, I::Error> {
-        self.drive(&mut (), &FirstTurn)
+        next_until(&mut self.it, &mut self.stage, &CoalesceStage)
     }
 
     fn size_hint(&self) -> (usize, Option<usize>) {
@@ -63,7 +66,7 @@ where
         state: &mut C,
         turn: &K,
     ) -> Result<Option<R>, I::Error> {
-        drive_holding(&mut self.it, &mut self.stage, &CoalesceHold, state, turn)
+        drive_stage(&mut self.it, &mut self.stage, &CoalesceStage, state, turn)
     }
 
     ghost lawful = { lawful_parts coalesce_made (lawful_coalesce F.FnMut I.lawful) };
@@ -71,45 +74,69 @@ where
 
 // What the closure makes of the buffered item and the next one.
 #[derive(Drop)]
-struct CoalesceHold;
+struct CoalesceStage;
 
-impl<X: Drop, E, F: FnMut(X, X) -> Result<Result<X, (X, X)>, E>> Hold<(Option<X>, F), X, E>
-    for CoalesceHold {
+impl<X: Drop, E, F: FnMut(X, X) -> Result<Result<X, (X, X)>, E>> Stage<(Option<X>, F), X, E>
+    for CoalesceStage {
     type Kept = X;
 
-    ghost can_ask = { λ _ p x. coalesce_takes (takes_with F.FnMut) p x };
+    type Due = Stop<E>;
 
-    ghost asks = { λ _ p x o q. coalesce_asks (call_with F.FnMut) p x o q };
+    ghost comes = { λ _ stop. stop_comes stop };
 
-    ghost held = { λ _ p. held_beside p };
+    ghost can_meet = { λ _ p x. plan_takes (coalesce_takes F.FnMut) (coalesce_plan {E = E}) p x };
+
+    ghost items = { λ _ p x made q. plan_item (coalesce_call F.FnMut) coalesce_plan dedup_stops p x made q };
+
+    ghost stops = { λ _ p stop made q. plan_stop (coalesce_call F.FnMut) coalesce_plan dedup_stops p stop made q };
+
+    ghost most = { λ _. 1 };
+
+    ghost held = { λ _ p. held_one p.0 };
 
     #[inline(always)]
-    fn ask(&self, holds: &mut (Option<X>, F), asked: Option<X>) -> Outcome<X, E>
-        requires { coalesce_takes (takes_with F.FnMut) holds.old asked }
-        ensures { coalesce_asks (call_with F.FnMut) holds.old asked result holds.new }
+    fn on_item(&self, p: &mut (Option<X>, F), item: X) -> Made<X, Stop<E>, E>
+        requires { plan_takes (coalesce_takes F.FnMut) (coalesce_plan {E = E}) p.old item }
+        ensures { plan_item (coalesce_call F.FnMut) coalesce_plan dedup_stops p.old item result p.new }
     {
-        match (holds.0.take(), asked) {
-            (None, Some(x)) => {
-                holds.0 = Some(x);
-                Outcome::LeftOut
+        match p.0.take() {
+            None => {
+                p.0 = Some(item);
+                None
             }
-            (Some(first), Some(x)) => match (holds.1)(first, x) {
-                Ok(Ok(one)) => {
-                    holds.0 = Some(one);
-                    Outcome::LeftOut
-                }
-                Ok(Err((first, second))) => {
-                    holds.0 = Some(second);
-                    Outcome::Kept(first)
-                }
-                Err(e) => Outcome::Failure(e),
-            },
-            (Some(first), None) => Outcome::Kept(first),
-            (None, None) => Outcome::End,
+            Some(first) => {
+                let (kept, made) = by_answer((p.1)(first, item));
+                p.0 = kept;
+                made
+            }
         }
     }
 
-    ghost can_stop = { λ _ p. coalesce_takes_stop (takes_with F.FnMut) p };
+    #[inline(always)]
+    fn on_stop(&self, p: &mut (Option<X>, F), stop: Stop<E>) -> Made<X, Stop<E>, E>
+        ensures { plan_stop (coalesce_call F.FnMut) coalesce_plan dedup_stops p.old stop result p.new }
+    {
+        let_go(p.0.take(), stop)
+    }
 
-    ghost holds = { λ _. holds_coalesce (call_with F.FnMut) };
+    #[inline(always)]
+    fn answer_due(&self, due: Stop<E>) -> AnswerAndDue<X, Stop<E>, E> {
+        (stopped(due), None)
+    }
+
+    ghost is_stage = { λ _. is_stage_coalesce (coalesce_call F.FnMut) };
+}
+
+// What is buffered of the two items then, and what is made.
+#[inline(always)]
+fn by_answer<X, E>(
+    answer: Result<Result<X, (X, X)>, E>,
+) -> (Option<X>, Made<X, Stop<E>, E>)
+    ensures { Makes (coalesced_by answer) result.1 result.0 }
+{
+    match answer {
+        Ok(Ok(both)) => (Some(both), None),
+        Ok(Err((first, second))) => (Some(second), one(Ok(Some(first)))),
+        Err(e) => (None, one(Err(e))),
+    }
 }

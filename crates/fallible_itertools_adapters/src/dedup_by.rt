@@ -2,13 +2,16 @@
 ghost use Rattle.std.specs.Prelude.{Option, Result, None, ◌≡◌};
 ghost use Rattle.fallible_iterator.specs.Contract.{parts_as};
 ghost use Rattle.fallible_iterator.specs.Laws.Contract.{lawful_parts};
-ghost use Rattle.fallible_iterator.specs.Picking.{call_at_two, takes_at_two};
-ghost use Rattle.fallible_itertools_adapters.specs.DedupBy.{dedup_by_asks, dedup_by_contract, dedup_by_made, dedup_by_parts, dedup_by_takes};
-ghost use Rattle.fallible_itertools_adapters.specs.Holding.{held_beside};
-ghost use Rattle.fallible_itertools_adapters.specs.Laws.DedupBy.{dedup_by_takes_stop, holds_dedup_by, lawful_dedup_by};
+ghost use Rattle.fallible_itertools_adapters.specs.BeforeStop.{held_one};
+ghost use Rattle.fallible_itertools_adapters.specs.Dedup.{dedup_stops};
+ghost use Rattle.fallible_itertools_adapters.specs.DedupBy.{dedup_by_contract, dedup_by_made, dedup_by_parts, dedup_by_plan, same_by, same_call, same_takes};
+ghost use Rattle.fallible_itertools_adapters.specs.Laws.DedupBy.{is_stage_dedup_by, lawful_dedup_by};
+ghost use Rattle.fallible_itertools_adapters.specs.Plan.{Makes, plan_item, plan_stop, plan_takes};
+ghost use Rattle.fallible_itertools_adapters.specs.Staging.{stop_comes};
 
-use crate::holding::{Hold, drive_holding, with_held};
-use fallible_iterator::extending::{FirstTurn, Outcome};
+use crate::staging::{
+    AnswerAndDue, Made, Stage, Stop, drive_stage, let_go, next_until, one, stopped, with_held,
+};
 use fallible_iterator::{FallibleIterator, Turn};
 
 /// The first of adjacent items that the closure finds the same. It is buffered until an item that differs comes, or a stop: `Ok(None)` or a failure, which the next call returns. The closure's failure is a stop.
@@ -16,7 +19,7 @@ use fallible_iterator::{FallibleIterator, Turn};
 pub struct DedupBy<I: FallibleIterator, F> {
     pub(crate) it: I,
     // the first of items that are the same, which wasn't yielded yet, and the closure; and the stop that is due: `Ok(None)`, or a failure
-    pub(crate) stage: ((Option<I::Item>, F), Option<Option<I::Error>>),
+    pub(crate) stage: ((Option<I::Item>, F), Option<Stop<I::Error>>),
 }
 
 impl<I: FallibleIterator, F> DedupBy<I, F> {
@@ -42,11 +45,11 @@ where
 
     type Error = I::Error;
 
-    ghost contract = { parts_as dedup_by_parts (dedup_by_contract I.contract F.FnMut) };
+    ghost contract = { parts_as dedup_by_parts (dedup_by_contract F.FnMut I.contract) };
 
     /// Returns the stop that is due, without a draw. Otherwise it draws until an item differs from the buffered one, or a stop comes.
     fn next(&mut self) -> Result<Option<I::Item>, I::Error> {
-        self.drive(&mut (), &FirstTurn)
+        next_until(&mut self.it, &mut self.stage, &SameStage)
     }
 
     fn size_hint(&self) -> (usize, Option<usize>) {
@@ -61,7 +64,7 @@ where
         state: &mut C,
         turn: &K,
     ) -> Result<Option<R>, I::Error> {
-        drive_holding(&mut self.it, &mut self.stage, &SameHold, state, turn)
+        drive_stage(&mut self.it, &mut self.stage, &SameStage, state, turn)
     }
 
     ghost lawful = { lawful_parts dedup_by_made (lawful_dedup_by F.FnMut I.lawful) };
@@ -69,47 +72,72 @@ where
 
 // What becomes of an item after the buffered one, by what the closure returns on the two.
 #[derive(Drop)]
-struct SameHold;
+struct SameStage;
 
-impl<X: Drop, E, F: FnMut(&X, &X) -> Result<bool, E>> Hold<(Option<X>, F), X, E> for SameHold {
+impl<X: Drop, E, F: FnMut(&X, &X) -> Result<bool, E>> Stage<(Option<X>, F), X, E>
+    for SameStage {
     type Kept = X;
 
-    ghost can_ask = { λ _ p x. dedup_by_takes (takes_at_two F.FnMut) p x };
+    type Due = Stop<E>;
 
-    ghost asks = { λ _ p x o q. dedup_by_asks (call_at_two F.FnMut) p x o q };
+    ghost comes = { λ _ stop. stop_comes stop };
 
-    ghost held = { λ _ p. held_beside p };
+    ghost can_meet = { λ _ p x. plan_takes (same_takes F.FnMut) (dedup_by_plan {E = E}) p x };
+
+    ghost items = { λ _ p x made q. plan_item (same_call F.FnMut) dedup_by_plan dedup_stops p x made q };
+
+    ghost stops = { λ _ p stop made q. plan_stop (same_call F.FnMut) dedup_by_plan dedup_stops p stop made q };
+
+    ghost most = { λ _. 1 };
+
+    ghost held = { λ _ p. held_one p.0 };
 
     #[inline(always)]
-    fn ask(&self, holds: &mut (Option<X>, F), asked: Option<X>) -> Outcome<X, E>
-        requires { dedup_by_takes (takes_at_two F.FnMut) holds.old asked }
-        ensures { dedup_by_asks (call_at_two F.FnMut) holds.old asked result holds.new }
+    fn on_item(&self, p: &mut (Option<X>, F), item: X) -> Made<X, Stop<E>, E>
+        requires { plan_takes (same_takes F.FnMut) (dedup_by_plan {E = E}) p.old item }
+        ensures { plan_item (same_call F.FnMut) dedup_by_plan dedup_stops p.old item result p.new }
     {
-        match (holds.0.take(), asked) {
-            (None, Some(x)) => {
-                holds.0 = Some(x);
-                Outcome::LeftOut
+        match p.0.take() {
+            None => {
+                p.0 = Some(item);
+                None
             }
-            (Some(first), Some(x)) => match (holds.1)(&first, &x) {
-                Ok(true) => {
-                    holds.0 = Some(first);
-                    Outcome::LeftOut
-                }
-                Ok(false) => {
-                    holds.0 = Some(x);
-                    Outcome::Kept(first)
-                }
-                Err(e) => {
-                    holds.0 = Some(first);
-                    Outcome::Failure(e)
-                }
-            },
-            (Some(first), None) => Outcome::Kept(first),
-            (None, None) => Outcome::End,
+            Some(first) => {
+                let same = (p.1)(&first, &item);
+                let (kept, made) = by_same(first, item, same);
+                p.0 = kept;
+                made
+            }
         }
     }
 
-    ghost can_stop = { λ _ p. dedup_by_takes_stop (takes_at_two F.FnMut) p };
+    #[inline(always)]
+    fn on_stop(&self, p: &mut (Option<X>, F), stop: Stop<E>) -> Made<X, Stop<E>, E>
+        ensures { plan_stop (same_call F.FnMut) dedup_by_plan dedup_stops p.old stop result p.new }
+    {
+        let_go(p.0.take(), stop)
+    }
 
-    ghost holds = { λ _. holds_dedup_by (call_at_two F.FnMut) };
+    #[inline(always)]
+    fn answer_due(&self, due: Stop<E>) -> AnswerAndDue<X, Stop<E>, E> {
+        (stopped(due), None)
+    }
+
+    ghost is_stage = { λ _. is_stage_dedup_by (same_call F.FnMut) };
+}
+
+// What is buffered of the two items then, and what is made.
+#[inline(always)]
+fn by_same<X: Drop, E>(
+    first: X,
+    item: X,
+    same: Result<bool, E>,
+) -> (Option<X>, Made<X, Stop<E>, E>)
+    ensures { Makes (same_by first item same) result.1 result.0 }
+{
+    match same {
+        Ok(true) => (Some(first), None),
+        Ok(false) => (Some(item), one(Ok(Some(first)))),
+        Err(e) => (None, let_go(Some(first), Some(e))),
+    }
 }

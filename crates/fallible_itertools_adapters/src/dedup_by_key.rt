@@ -1,14 +1,17 @@
 // The adapter that yields the first of adjacent items with equal keys.
-ghost use Rattle.std.specs.Prelude.{Ok, Option, Result, None, ◌≡◌};
+ghost use Rattle.std.specs.Prelude.{Option, Result, None, ◌≡◌};
 ghost use Rattle.fallible_iterator.specs.Closures.{call_by_reference, takes_by_reference};
 ghost use Rattle.fallible_iterator.specs.Contract.{parts_as};
 ghost use Rattle.fallible_iterator.specs.Laws.Contract.{lawful_parts};
-ghost use Rattle.fallible_itertools_adapters.specs.DedupByKey.{dedup_by_key_contract, dedup_by_key_made, dedup_by_key_parts, dedup_key_asks, dedup_key_takes, keyed_by};
-ghost use Rattle.fallible_itertools_adapters.specs.Holding.{held_beside};
-ghost use Rattle.fallible_itertools_adapters.specs.Laws.DedupByKey.{holds_dedup_key, lawful_dedup_by_key};
+ghost use Rattle.fallible_itertools_adapters.specs.BeforeStop.{held_one};
+ghost use Rattle.fallible_itertools_adapters.specs.DedupByKey.{dedup_by_key_contract, dedup_by_key_made, dedup_by_key_parts, dedup_key_plan, dedup_key_stops, keyed_by, keyed_item};
+ghost use Rattle.fallible_itertools_adapters.specs.Laws.DedupByKey.{is_stage_dedup_key, lawful_dedup_by_key};
+ghost use Rattle.fallible_itertools_adapters.specs.Plan.{Makes, plan_item, plan_stop, plan_takes};
+ghost use Rattle.fallible_itertools_adapters.specs.Staging.{stop_comes};
 
-use crate::holding::{Hold, drive_holding, with_held};
-use fallible_iterator::extending::{FirstTurn, Outcome};
+use crate::staging::{
+    AnswerAndDue, Made, Stage, Stop, drive_stage, let_go, next_until, one, stopped, with_held,
+};
 use fallible_iterator::{FallibleIterator, Turn};
 
 /// The first of adjacent items with equal keys. It is buffered, with its key, until an item with another key comes, or a stop, which the next call returns.
@@ -16,7 +19,7 @@ use fallible_iterator::{FallibleIterator, Turn};
 pub struct DedupByKey<I: FallibleIterator, K, F> {
     pub(crate) it: I,
     // the buffered item with its key, and the closure; and the stop that is due: `Ok(None)`, or a failure
-    pub(crate) stage: ((Option<(K, I::Item)>, F), Option<Option<I::Error>>),
+    pub(crate) stage: ((Option<(K, I::Item)>, F), Option<Stop<I::Error>>),
 }
 
 impl<I: FallibleIterator, K, F> DedupByKey<I, K, F> {
@@ -45,11 +48,11 @@ where
 
     type Error = I::Error;
 
-    ghost contract = { parts_as dedup_by_key_parts (dedup_by_key_contract K.eq I.contract F.FnMut) };
+    ghost contract = { parts_as dedup_by_key_parts (dedup_by_key_contract K.eq F.FnMut I.contract) };
 
     /// Returns the stop that is due, without a draw. Otherwise it draws until an item has another key than the buffered one, or a stop comes.
     fn next(&mut self) -> Result<Option<I::Item>, I::Error> {
-        self.drive(&mut (), &FirstTurn)
+        next_until(&mut self.it, &mut self.stage, &KeyStage)
     }
 
     fn size_hint(&self) -> (usize, Option<usize>) {
@@ -64,7 +67,7 @@ where
         state: &mut C,
         turn: &T,
     ) -> Result<Option<R>, I::Error> {
-        drive_holding(&mut self.it, &mut self.stage, &KeyHold, state, turn)
+        drive_stage(&mut self.it, &mut self.stage, &KeyStage, state, turn)
     }
 
     ghost lawful = { lawful_parts dedup_by_key_made (lawful_dedup_by_key K.eq F.FnMut I.lawful) };
@@ -72,57 +75,81 @@ where
 
 // What becomes of an item by its key.
 #[derive(Drop)]
-struct KeyHold;
+struct KeyStage;
 
-impl<X: Drop, E, K: PartialEq + Drop, F: FnMut(&X) -> Result<K, E>> Hold<(Option<(K, X)>, F), X, E>
-    for KeyHold {
+impl<X: Drop, E, K: PartialEq + Drop, F: FnMut(&X) -> Result<K, E>> Stage<(Option<(K, X)>, F), X, E>
+    for KeyStage {
     type Kept = X;
 
-    ghost can_ask = { λ _ p x. dedup_key_takes (takes_by_reference F.FnMut) p x };
+    type Due = Stop<E>;
 
-    ghost asks = { λ _ p x o q. dedup_key_asks K.eq (call_by_reference F.FnMut) p x o q };
+    ghost comes = { λ _ stop. stop_comes stop };
 
-    ghost held = { λ _ p. held_beside p };
+    ghost can_meet = { λ _ p x. plan_takes (takes_by_reference F.FnMut) (dedup_key_plan K.eq {E = E}) p x };
+
+    ghost items = { λ _ p x made q. plan_item (call_by_reference F.FnMut) (dedup_key_plan K.eq) dedup_key_stops p x made q };
+
+    ghost stops = { λ _ p stop made q. plan_stop (call_by_reference F.FnMut) (dedup_key_plan K.eq) dedup_key_stops p stop made q };
+
+    ghost most = { λ _. 1 };
+
+    ghost held = { λ _ p. held_one p.0 };
 
     #[inline(always)]
-    fn ask(&self, holds: &mut (Option<(K, X)>, F), asked: Option<X>) -> Outcome<X, E>
-        requires { dedup_key_takes (takes_by_reference F.FnMut) holds.old asked }
-        ensures { dedup_key_asks K.eq (call_by_reference F.FnMut) holds.old asked result holds.new }
+    fn on_item(&self, p: &mut (Option<(K, X)>, F), item: X) -> Made<X, Stop<E>, E>
+        requires { plan_takes (takes_by_reference F.FnMut) (dedup_key_plan K.eq {E = E}) p.old item }
+        ensures { plan_item (call_by_reference F.FnMut) (dedup_key_plan K.eq) dedup_key_stops p.old item result p.new }
     {
-        match asked {
-            Some(x) => match (holds.1)(&x) {
-                Ok(key) => beside(&mut holds.0, key, x),
-                Err(e) => Outcome::Failure(e),
-            },
-            None => match holds.0.take() {
-                Some((_key, first)) => Outcome::Kept(first),
-                None => Outcome::End,
-            },
-        }
+        let key = (p.1)(&item);
+        let (kept, made) = by_key(p.0.take(), item, key);
+        p.0 = kept;
+        made
     }
 
-    ghost can_stop = { λ _ p. tt };
+    #[inline(always)]
+    fn on_stop(&self, p: &mut (Option<(K, X)>, F), stop: Stop<E>) -> Made<X, Stop<E>, E>
+        ensures { plan_stop (call_by_reference F.FnMut) (dedup_key_plan K.eq) dedup_key_stops p.old stop result p.new }
+    {
+        let_go(item_of(p.0.take()), stop)
+    }
 
-    ghost holds = { λ _. holds_dedup_key K.eq (call_by_reference F.FnMut) };
+    #[inline(always)]
+    fn answer_due(&self, due: Stop<E>) -> AnswerAndDue<X, Stop<E>, E> {
+        (stopped(due), None)
+    }
+
+    ghost is_stage = { λ _. is_stage_dedup_key K.eq (call_by_reference F.FnMut) };
 }
 
-// An item with its key after the buffered one, if there is one.
-fn beside<X: Drop, E, K: PartialEq + Drop>(held: &mut Option<(K, X)>, key: K, x: X) -> Outcome<X, E>
-    ensures { keyed_by K.eq held.old x (Ok key) result held.new }
+// The item without its key.
+#[inline(always)]
+fn item_of<X, K: Drop>(held: Option<(K, X)>) -> Option<X>
+    ensures { result ≡ keyed_item held }
 {
-    match held.take() {
-        Some((first_key, first)) => {
+    match held {
+        Some((_key, item)) => Some(item),
+        None => None,
+    }
+}
+
+// What is buffered then, and what is made, by the key of the next item.
+#[inline(always)]
+fn by_key<X: Drop, E, K: PartialEq + Drop>(
+    held: Option<(K, X)>,
+    item: X,
+    key: Result<K, E>,
+) -> (Option<(K, X)>, Made<X, Stop<E>, E>)
+    ensures { Makes (keyed_by K.eq held item key) result.1 result.0 }
+{
+    match (key, held) {
+        (Err(e), held) => (None, let_go(item_of(held), Some(e))),
+        (Ok(key), None) => (Some((key, item)), None),
+        (Ok(key), Some((first_key, first))) => {
             if first_key == key {
-                *held = Some((first_key, first));
-                Outcome::LeftOut
+                (Some((first_key, first)), None)
             } else {
-                *held = Some((key, x));
-                Outcome::Kept(first)
+                (Some((key, item)), one(Ok(Some(first))))
             }
-        }
-        None => {
-            *held = Some((key, x));
-            Outcome::LeftOut
         }
     }
 }

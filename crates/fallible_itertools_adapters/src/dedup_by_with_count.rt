@@ -3,20 +3,25 @@ ghost use Rattle.std.specs.Prelude.{Option, Result, None, ◌≡◌};
 ghost use Rattle.fallible_iterator.specs.Contract.{parts_as};
 ghost use Rattle.fallible_iterator.specs.Laws.Contract.{lawful_parts};
 ghost use Rattle.fallible_iterator.specs.Picking.{call_at_two, takes_at_two};
-ghost use Rattle.fallible_itertools_adapters.specs.DedupByWithCount.{dedup_by_with_count_asks, dedup_by_with_count_contract, dedup_by_with_count_made, dedup_by_with_count_parts, dedup_by_with_count_takes};
-ghost use Rattle.fallible_itertools_adapters.specs.Holding.{held_beside};
-ghost use Rattle.fallible_itertools_adapters.specs.Laws.DedupByWithCount.{dedup_by_with_count_takes_stop, holds_dedup_by_with_count, lawful_dedup_by_with_count};
+ghost use Rattle.fallible_itertools_adapters.specs.BeforeStop.{held_one};
+ghost use Rattle.fallible_itertools_adapters.specs.DedupByWithCount.{dedup_by_with_count_contract, dedup_by_with_count_made, dedup_by_with_count_parts};
+ghost use Rattle.fallible_itertools_adapters.specs.Laws.RunCounts.{is_stage_count, lawful_dedup_by_with_count};
+ghost use Rattle.fallible_itertools_adapters.specs.Plan.{call_on_pair, plan_item, plan_stop, plan_takes, takes_pair};
+ghost use Rattle.fallible_itertools_adapters.specs.RunCounts.{count_plan, count_stops};
+ghost use Rattle.fallible_itertools_adapters.specs.Staging.{stop_comes};
 
-use crate::holding::{Hold, drive_holding, with_held};
-use fallible_iterator::extending::{FirstTurn, Outcome};
+use crate::staging::{
+    AnswerAndDue, Made, Stage, Stop, drive_stage, let_go, next_until, one, stopped, with_held,
+};
 use fallible_iterator::{FallibleIterator, Turn};
+use std::mem::replace;
 
 /// The first of adjacent items that the closure finds the same beside their number. It is buffered until an item that differs comes, or a stop: `Ok(None)` or a failure, which the next call returns. The closure's failure is a stop.
 #[derive(Clone, Debug, Drop)]
 pub struct DedupByWithCount<I: FallibleIterator, F> {
     pub(crate) it: I,
     // the number of items that are the same so far and the first of them, which wasn't yielded yet, and the closure; and the stop that is due: `Ok(None)`, or a failure
-    pub(crate) stage: ((Option<(usize, I::Item)>, F), Option<Option<I::Error>>),
+    pub(crate) stage: ((Option<(usize, I::Item)>, F), Option<Stop<I::Error>>),
 }
 
 impl<I: FallibleIterator, F> DedupByWithCount<I, F> {
@@ -43,11 +48,11 @@ where
     type Error = I::Error;
 
     ghost contract = { parts_as dedup_by_with_count_parts
-        (dedup_by_with_count_contract I.contract F.FnMut) };
+        (dedup_by_with_count_contract F.FnMut I.contract) };
 
     /// Returns the stop that is due, without a draw. Otherwise it draws until an item differs from the buffered one, or a stop comes.
     fn next(&mut self) -> Result<Option<(usize, I::Item)>, I::Error> {
-        self.drive(&mut (), &FirstTurn)
+        next_until(&mut self.it, &mut self.stage, &SameCount)
     }
 
     fn size_hint(&self) -> (usize, Option<usize>) {
@@ -62,57 +67,79 @@ where
         state: &mut C,
         turn: &K,
     ) -> Result<Option<R>, I::Error> {
-        drive_holding(&mut self.it, &mut self.stage, &SameCountHold, state, turn)
+        drive_stage(&mut self.it, &mut self.stage, &SameCount, state, turn)
     }
 
     ghost lawful = { lawful_parts dedup_by_with_count_made
         (lawful_dedup_by_with_count F.FnMut I.lawful) };
 }
 
-// What becomes of an item after the buffered one, by what the closure returns on the two.
+// An item is counted if the closure finds it the same as the buffered one.
 #[derive(Drop)]
-struct SameCountHold;
+struct SameCount;
 
-impl<X: Drop, E, F: FnMut(&X, &X) -> Result<bool, E>> Hold<(Option<(usize, X)>, F), X, E>
-    for SameCountHold {
+impl<X: Drop, E, F: FnMut(&X, &X) -> Result<bool, E>> Stage<(Option<(usize, X)>, F), X, E>
+    for SameCount {
     type Kept = (usize, X);
 
-    ghost can_ask = { λ _ p x. dedup_by_with_count_takes (takes_at_two F.FnMut) p x };
+    type Due = Stop<E>;
 
-    ghost asks = { λ _ p x o q. dedup_by_with_count_asks (call_at_two F.FnMut) p x o q };
+    ghost comes = { λ _ stop. stop_comes stop };
 
-    ghost held = { λ _ p. held_beside p };
+    ghost can_meet = { λ _ p x. plan_takes (takes_pair (takes_at_two F.FnMut)) (count_plan {E = E}) p
+        x };
+
+    ghost items = { λ _ p x made q. plan_item (call_on_pair (call_at_two F.FnMut)) count_plan
+        count_stops p x made q };
+
+    ghost stops = { λ _ p stop made q. plan_stop (call_on_pair (call_at_two F.FnMut)) count_plan
+        count_stops p stop made q };
+
+    ghost most = { λ _. 1 };
+
+    ghost held = { λ _ p. held_one p.0 };
 
     #[inline(always)]
-    fn ask(&self, holds: &mut (Option<(usize, X)>, F), asked: Option<X>) -> Outcome<(usize, X), E>
-        requires { dedup_by_with_count_takes (takes_at_two F.FnMut) holds.old asked }
-        ensures { dedup_by_with_count_asks (call_at_two F.FnMut) holds.old asked result holds.new }
+    fn on_item(&self, p: &mut (Option<(usize, X)>, F), item: X) -> Made<(usize, X), Stop<E>, E>
+        requires { plan_takes (takes_pair (takes_at_two F.FnMut)) (count_plan {E = E}) p.old item }
+        ensures { plan_item (call_on_pair (call_at_two F.FnMut)) count_plan count_stops p.old item
+            result p.new }
     {
-        match (holds.0.take(), asked) {
-            (None, Some(x)) => {
-                holds.0 = Some((1, x));
-                Outcome::LeftOut
+        match &mut p.0 {
+            None => {
+                p.0 = Some((1, item));
+                None
             }
-            (Some((count, first)), Some(x)) => match (holds.1)(&first, &x) {
+            Some((count, first)) => match (p.1)(first, &item) {
                 Ok(true) => {
-                    holds.0 = Some((count.saturating_add(1), first));
-                    Outcome::LeftOut
+                    *count = count.saturating_add(1);
+                    None
                 }
-                Ok(false) => {
-                    holds.0 = Some((1, x));
-                    Outcome::Kept((count, first))
-                }
-                Err(e) => {
-                    holds.0 = Some((count, first));
-                    Outcome::Failure(e)
-                }
+                Ok(false) => match replace(&mut p.0, Some((1, item))) {
+                    Some(run) => one(Ok(Some(run))),
+                    None => None,
+                },
+                Err(e) => let_go(p.0.take(), Some(e)),
             },
-            (Some(first), None) => Outcome::Kept(first),
-            (None, None) => Outcome::End,
         }
     }
 
-    ghost can_stop = { λ _ p. dedup_by_with_count_takes_stop (takes_at_two F.FnMut) p };
+    #[inline(always)]
+    fn on_stop(
+        &self,
+        p: &mut (Option<(usize, X)>, F),
+        stop: Stop<E>,
+    ) -> Made<(usize, X), Stop<E>, E>
+        ensures { plan_stop (call_on_pair (call_at_two F.FnMut)) count_plan count_stops p.old stop
+            result p.new }
+    {
+        let_go(p.0.take(), stop)
+    }
 
-    ghost holds = { λ _. holds_dedup_by_with_count (call_at_two F.FnMut) };
+    #[inline(always)]
+    fn answer_due(&self, due: Stop<E>) -> AnswerAndDue<(usize, X), Stop<E>, E> {
+        (stopped(due), None)
+    }
+
+    ghost is_stage = { λ _. is_stage_count (call_on_pair (call_at_two F.FnMut)) };
 }

@@ -2,31 +2,37 @@
 ghost use Rattle.std.specs.Prelude.{⊤, Option, Result, None, ◌≡◌};
 ghost use Rattle.fallible_iterator.specs.Contract.{parts_as};
 ghost use Rattle.fallible_iterator.specs.Laws.Contract.{lawful_parts};
-ghost use Rattle.fallible_itertools_adapters.specs.DedupWithCount.{dedup_with_count_asks, dedup_with_count_contract, dedup_with_count_made, dedup_with_count_parts};
 ghost use Rattle.fallible_itertools_adapters.specs.BeforeStop.{held_one};
-ghost use Rattle.fallible_itertools_adapters.specs.Laws.DedupWithCount.{holds_dedup_with_count, lawful_dedup_with_count};
+ghost use Rattle.fallible_itertools_adapters.specs.DedupWithCount.{are_equal, dedup_with_count_contract, dedup_with_count_made, dedup_with_count_parts};
+ghost use Rattle.fallible_itertools_adapters.specs.Laws.RunCounts.{is_stage_count, lawful_dedup_with_count};
+ghost use Rattle.fallible_itertools_adapters.specs.Plan.{plan_item, plan_stop};
+ghost use Rattle.fallible_itertools_adapters.specs.RunCounts.{count_plan, count_stops};
+ghost use Rattle.fallible_itertools_adapters.specs.Staged.{calls_function};
+ghost use Rattle.fallible_itertools_adapters.specs.Staging.{stop_comes};
 
-use crate::holding::{Hold, drive_holding, with_held};
-use fallible_iterator::extending::{FirstTurn, Outcome};
+use crate::staging::{
+    AnswerAndDue, Made, Stage, Stop, drive_stage, let_go, next_until, one, stopped, with_held,
+};
 use fallible_iterator::{FallibleIterator, Turn};
+use std::mem::replace;
 
 /// The first of adjacent equal items beside their number. It is buffered until an item that differs comes, or a stop: `Ok(None)` or a failure, which the next call returns.
 #[derive(Clone, Debug, Drop)]
 pub struct DedupWithCount<I: FallibleIterator> {
     pub(crate) it: I,
     // the number of equal items so far and the first of them, which wasn't yielded yet; and the stop that is due: `Ok(None)`, or a failure
-    pub(crate) stage: (Option<(usize, I::Item)>, Option<Option<I::Error>>),
+    pub(crate) stage: ((Option<(usize, I::Item)>, ()), Option<Stop<I::Error>>),
 }
 
 impl<I: FallibleIterator> DedupWithCount<I> {
     /// Creates it. It draws nothing.
     #[inline(always)]
     pub fn new(it: I) -> DedupWithCount<I>
-        ensures { dedup_with_count_parts result ≡ (it, (None, None)) }
+        ensures { dedup_with_count_parts result ≡ (it, ((None, tt), None)) }
     {
         DedupWithCount {
             it,
-            stage: (None, None),
+            stage: ((None, ()), None),
         }
     }
 }
@@ -44,13 +50,13 @@ where
 
     /// Returns the stop that is due, without a draw. Otherwise it draws until an item differs from the buffered one, or a stop comes.
     fn next(&mut self) -> Result<Option<(usize, I::Item)>, I::Error> {
-        self.drive(&mut (), &FirstTurn)
+        next_until(&mut self.it, &mut self.stage, &EqualCount)
     }
 
     fn size_hint(&self) -> (usize, Option<usize>) {
         match self.stage.1 {
             Some(None) => (0, Some(0)),
-            _ => with_held(self.it.size_hint(), self.stage.0.is_some()),
+            _ => with_held(self.it.size_hint(), self.stage.0.0.is_some()),
         }
     }
 
@@ -59,50 +65,73 @@ where
         state: &mut C,
         turn: &K,
     ) -> Result<Option<R>, I::Error> {
-        drive_holding(&mut self.it, &mut self.stage, &EqualHold, state, turn)
+        drive_stage(&mut self.it, &mut self.stage, &EqualCount, state, turn)
     }
 
     ghost lawful = { lawful_parts dedup_with_count_made
         (lawful_dedup_with_count I.Item.eq I.lawful) };
 }
 
-// What becomes of an item after the buffered one.
+// An item that equals the buffered one is counted.
 #[derive(Drop)]
-struct EqualHold;
+struct EqualCount;
 
-impl<X: PartialEq + Drop, E> Hold<Option<(usize, X)>, X, E> for EqualHold {
+impl<X: PartialEq + Drop, E> Stage<(Option<(usize, X)>, ()), X, E> for EqualCount {
     type Kept = (usize, X);
 
-    ghost can_ask = { λ _ p x. ⊤ };
+    type Due = Stop<E>;
 
-    ghost asks = { λ _ p x o q. dedup_with_count_asks X.eq p x o q };
+    ghost comes = { λ _ stop. stop_comes stop };
 
-    ghost held = { λ _ p. held_one p };
+    ghost can_meet = { λ _ p x. ⊤ };
+
+    ghost items = { λ _ p x made q. plan_item (calls_function (are_equal X.eq)) count_plan count_stops
+        p x made q };
+
+    ghost stops = { λ _ p stop made q. plan_stop (calls_function (are_equal X.eq)) count_plan
+        count_stops p stop made q };
+
+    ghost most = { λ _. 1 };
+
+    ghost held = { λ _ p. held_one p.0 };
 
     #[inline(always)]
-    fn ask(&self, holds: &mut Option<(usize, X)>, asked: Option<X>) -> Outcome<(usize, X), E>
-        ensures { dedup_with_count_asks X.eq holds.old asked result holds.new }
+    fn on_item(
+        &self,
+        p: &mut (Option<(usize, X)>, ()),
+        item: X,
+    ) -> Made<(usize, X), Stop<E>, E>
+        ensures { plan_item (calls_function (are_equal X.eq)) count_plan count_stops p.old item result
+            p.new }
     {
-        match (holds.take(), asked) {
-            (None, Some(x)) => {
-                *holds = Some((1, x));
-                Outcome::LeftOut
+        if let Some((count, first)) = &mut p.0 {
+            if *first == item {
+                *count = count.saturating_add(1);
+                return None;
             }
-            (Some((count, first)), Some(x)) => {
-                if first == x {
-                    *holds = Some((count.saturating_add(1), first));
-                    Outcome::LeftOut
-                } else {
-                    *holds = Some((1, x));
-                    Outcome::Kept((count, first))
-                }
-            }
-            (Some(first), None) => Outcome::Kept(first),
-            (None, None) => Outcome::End,
+        }
+        match replace(&mut p.0, Some((1, item))) {
+            Some(run) => one(Ok(Some(run))),
+            None => None,
         }
     }
 
-    ghost can_stop = { λ _ p. tt };
+    #[inline(always)]
+    fn on_stop(
+        &self,
+        p: &mut (Option<(usize, X)>, ()),
+        stop: Stop<E>,
+    ) -> Made<(usize, X), Stop<E>, E>
+        ensures { plan_stop (calls_function (are_equal X.eq)) count_plan count_stops p.old stop result
+            p.new }
+    {
+        let_go(p.0.take(), stop)
+    }
 
-    ghost holds = { λ _. holds_dedup_with_count X.eq };
+    #[inline(always)]
+    fn answer_due(&self, due: Stop<E>) -> AnswerAndDue<(usize, X), Stop<E>, E> {
+        (stopped(due), None)
+    }
+
+    ghost is_stage = { λ _. is_stage_count (calls_function (are_equal X.eq)) };
 }

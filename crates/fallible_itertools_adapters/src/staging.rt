@@ -220,7 +220,8 @@ where
     requires can_next { I.contract.can_next it.old }
     requires takes { TakesAll I.contract (stage_meets (G.items adapter.now) (G.stops adapter.now))
         (G.can_meet adapter.now) it.old stage.old.0 }
-    requires makes { PassesNoneOver (stage_meets (G.items adapter.now) (G.stops adapter.now)) }
+    requires makes { PassesNoneOver (stage_meets (G.items adapter.now) (G.stops adapter.now))
+        stage.old.0 }
     ensures { stage_step (G.comes adapter.now)
         (stage_meets (G.items adapter.now) (G.stops adapter.now)) I.contract.steps
         (it.old, stage.old) result (it.new, stage.new) }

@@ -1,16 +1,19 @@
 // The adapter that yields each item with its position.
-ghost use Rattle.std.specs.Prelude.{◌≡◌, ⊤, Bool, None, Option, Result, Some};
+ghost use Rattle.std.specs.Prelude.{◌≡◌, ⊤, Bool, None, Option, Result};
 ghost use Rattle.fallible_iterator.specs.Contract.{parts_as};
 ghost use Rattle.fallible_iterator.specs.Laws.Contract.{lawful_parts};
 ghost use Rattle.fallible_itertools_adapters.specs.BeforeStop.{held_one};
-ghost use Rattle.fallible_itertools_adapters.specs.Holding.{holding_step};
-ghost use Rattle.fallible_itertools_adapters.specs.WithPosition.{position_asks, position_before_item, position_before_stop, with_position_contract, with_position_made, with_position_parts};
-ghost use Rattle.fallible_itertools_adapters.specs.Laws.WithPosition.{position_asks_holds_held_one, lawful_with_position};
+ghost use Rattle.fallible_itertools_adapters.specs.Laws.WithPosition.{is_stage_position, lawful_with_position};
+ghost use Rattle.fallible_itertools_adapters.specs.Plan.{calls_nothing, plan_item, plan_stop};
+ghost use Rattle.fallible_itertools_adapters.specs.Staging.{stop_comes};
+ghost use Rattle.fallible_itertools_adapters.specs.WithPosition.{position_before_item, position_before_stop, position_plan, position_stops, positioned_last, with_position_contract, with_position_made, with_position_parts};
 
-use crate::holding::{Hold, drive_holding};
-use fallible_iterator::extending::{Outcome, sum};
+use crate::staging::{
+    AnswerAndDue, Made, Stage, Stop, drive_stage, let_go, next_stage, one, stopped,
+};
+use fallible_iterator::extending::sum;
 use fallible_iterator::{FallibleIterator, Turn};
-use std::mem;
+use std::mem::replace;
 
 /// Where an item stands among the items between two stops. A stop is `Ok(None)` or a failure.
 #[derive(Clone, Copy, Debug, PartialEq, Eq)]
@@ -30,18 +33,18 @@ pub enum Position {
 pub struct WithPosition<I: FallibleIterator> {
     pub(crate) it: I,
     // the item that wasn't yielded yet, and whether an item since the last stop came before it; and the stop that is due: `Ok(None)`, or a failure
-    pub(crate) stage: (Option<(bool, I::Item)>, Option<Option<I::Error>>),
+    pub(crate) stage: ((Option<(bool, I::Item)>, ()), Option<Stop<I::Error>>),
 }
 
 impl<I: FallibleIterator> WithPosition<I> {
     /// Creates it. It draws nothing.
     #[inline(always)]
     pub fn new(it: I) -> WithPosition<I>
-        ensures { with_position_parts result ≡ (it, (None, None)) }
+        ensures { with_position_parts result ≡ (it, ((None, tt), None)) }
     {
         WithPosition {
             it,
-            stage: (None, None),
+            stage: ((None, ()), None),
         }
     }
 }
@@ -60,23 +63,13 @@ where
     /// Returns the stop that is due, without a draw. Otherwise it draws once if an item is buffered, and otherwise twice, or up to a stop.
     fn next(&mut self) -> Result<Option<(Position, I::Item)>, I::Error> {
         match self.stage.1.take() {
-            Some(Some(e)) => Err(e),
-            Some(None) => Ok(None),
-            None => match self.stage.0.take() {
-                Some(before) => position_after(
-                    &mut self.it,
-                    &mut self.stage.0,
-                    &mut self.stage.1,
-                    before,
-                ),
+            Some(stop) => stopped(stop),
+            None => match &self.stage.0.0 {
+                Some(_) => next_stage(&mut self.it, &mut self.stage, &PositionStage),
                 None => match self.it.draw() {
                     Ok(Some(first)) => {
-                        position_after(
-                            &mut self.it,
-                            &mut self.stage.0,
-                            &mut self.stage.1,
-                            (false, first),
-                        )
+                        self.stage.0.0 = Some((false, first));
+                        next_stage(&mut self.it, &mut self.stage, &PositionStage)
                     }
                     Ok(None) => Ok(None),
                     Err(e) => Err(e),
@@ -89,7 +82,7 @@ where
         match self.stage.1 {
             Some(None) => (0, Some(0)),
             _ => {
-                let held = if self.stage.0.is_some() { 1 } else { 0 };
+                let held = if self.stage.0.0.is_some() { 1 } else { 0 };
                 sum(self.it.size_hint(), (held, Some(held)))
             }
         }
@@ -100,85 +93,82 @@ where
         state: &mut C,
         turn: &K,
     ) -> Result<Option<R>, I::Error> {
-        drive_holding(&mut self.it, &mut self.stage, &PositionHold, state, turn)
+        drive_stage(&mut self.it, &mut self.stage, &PositionStage, state, turn)
     }
 
     ghost lawful = { lawful_parts with_position_made (lawful_with_position I.lawful) };
 }
 
-// One draw after that item, which is yielded in any case. It is buffered no more, and no stop is due.
-fn position_after<I: FallibleIterator>(
-    it: &mut I,
-    held: &mut Option<(bool, I::Item)>,
-    due: &mut Option<Option<I::Error>>,
-    before: (bool, I::Item),
-) -> Result<Option<(Position, I::Item)>, I::Error>
-where
-    I::Item: Drop,
-    I::Error: Drop,
-    requires none_held { held.old ≡ None }
-    requires none_due { due.old ≡ None }
-    requires can_next { I.contract.can_next it.old }
-    ensures { holding_step position_asks I.contract.steps (it.old, (Some before, None)) result
-        (it.new, (held.new, due.new)) }
-{
-    let (is_later, item) = before;
-    match it.next() {
-        Ok(Some(x)) => {
-            *held = Some((true, x));
-            Ok(Some((before_item(is_later), item)))
-        }
-        Ok(None) => {
-            *due = Some(None);
-            Ok(Some((before_stop(is_later), item)))
-        }
-        Err(e) => {
-            *due = Some(Some(e));
-            Ok(Some((before_stop(is_later), item)))
-        }
-    }
-}
-
-// What becomes of an item after the buffered one.
+// An item is buffered until it is known what comes after it.
 #[derive(Drop)]
-struct PositionHold;
+struct PositionStage;
 
-impl<X, E> Hold<Option<(bool, X)>, X, E> for PositionHold {
+impl<X: Drop, E> Stage<(Option<(bool, X)>, ()), X, E> for PositionStage {
     type Kept = (Position, X);
 
-    ghost can_ask = { λ _ p x. ⊤ };
+    type Due = Stop<E>;
 
-    ghost asks = { λ _ p x o q. position_asks p x o q };
+    ghost comes = { λ _ stop. stop_comes stop };
 
-    ghost held = { λ _ p. held_one p };
+    ghost can_meet = { λ _ p x. ⊤ };
+
+    ghost items = { λ _ p x made q. plan_item calls_nothing position_plan position_stops p x made q };
+
+    ghost stops = { λ _ p stop made q. plan_stop calls_nothing position_plan position_stops p stop made
+        q };
+
+    ghost most = { λ _. 1 };
+
+    ghost held = { λ _ p. held_one p.0 };
 
     #[inline(always)]
-    fn ask(&self, holds: &mut Option<(bool, X)>, asked: Option<X>) -> Outcome<(Position, X), E>
-        ensures { position_asks holds.old asked result holds.new }
+    fn on_item(
+        &self,
+        p: &mut (Option<(bool, X)>, ()),
+        item: X,
+    ) -> Made<(Position, X), Stop<E>, E>
+        ensures { plan_item calls_nothing position_plan position_stops p.old item result p.new }
     {
-        match asked {
-            Some(x) => {
-                let is_later = holds.is_some();
-                match mem::replace(holds, Some((is_later, x))) {
-                    Some((was_later, first)) => Outcome::Kept((before_item(was_later), first)),
-                    None => Outcome::LeftOut,
-                }
-            }
-            None => match holds.take() {
-                Some((was_later, last)) => Outcome::Kept((before_stop(was_later), last)),
-                None => Outcome::End,
-            },
+        let is_later = p.0.is_some();
+        match replace(&mut p.0, Some((is_later, item))) {
+            Some((was_later, before)) => one(Ok(Some((first_or_middle(was_later), before)))),
+            None => None,
         }
     }
 
-    ghost can_stop = { λ _ p. tt };
+    #[inline(always)]
+    fn on_stop(
+        &self,
+        p: &mut (Option<(bool, X)>, ()),
+        stop: Stop<E>,
+    ) -> Made<(Position, X), Stop<E>, E>
+        ensures { plan_stop calls_nothing position_plan position_stops p.old stop result p.new }
+    {
+        let_go(placed_last(p.0.take()), stop)
+    }
 
-    ghost holds = { λ _. position_asks_holds_held_one };
+    #[inline(always)]
+    fn answer_due(&self, due: Stop<E>) -> AnswerAndDue<(Position, X), Stop<E>, E> {
+        (stopped(due), None)
+    }
+
+    ghost is_stage = { λ _. is_stage_position };
+}
+
+// The buffered item with its position before a stop.
+#[inline(always)]
+fn placed_last<X>(held: Option<(bool, X)>) -> Option<(Position, X)>
+    ensures { result ≡ positioned_last held }
+{
+    match held {
+        Some((is_later, last)) => Some((only_or_last(is_later), last)),
+        None => None,
+    }
 }
 
 // The position of an item that another item comes after.
 #[inline(always)]
-fn before_item(is_later: bool) -> Position
+fn first_or_middle(is_later: bool) -> Position
     ensures { result ≡ position_before_item is_later }
 {
     if is_later {
@@ -190,7 +180,7 @@ fn before_item(is_later: bool) -> Position
 
 // The position of an item that a stop comes after.
 #[inline(always)]
-fn before_stop(is_later: bool) -> Position
+fn only_or_last(is_later: bool) -> Position
     ensures { result ≡ position_before_stop is_later }
 {
     if is_later {

@@ -1,18 +1,20 @@
 -- Adapters by functions at whose stop what is held comes first: their hint, and a failure parts what they list.
 use Rattle.std.specs.Prelude.{◌≡◌, ℕ, suc, ◌+◌, ◌-◌, ◌≤◌, min, ⊤, IfSome, Option, Some, None, Result, Ok, Err, List, [], ◌∷◌, ◌++◌, length}
-use Rattle.std.proofs.Common.{refl, sym, ap, subst, arith, ◌∙◌}
+use Rattle.std.proofs.Common.{refl, sym, ap, subst, inl, inr, arith, ◌∙◌}
 use Rattle.fallible_iterator.specs.Traces.{Answered, Yields, end, item}
 use Rattle.fallible_iterator.specs.Contract.{Contract, parts_as}
 use Rattle.fallible_iterator.specs.Hints.{fitting_sum}
 use Rattle.fallible_iterator.specs.Lists.{result_answer}
 use Rattle.fallible_iterator.specs.SoundHints.{Brackets, HintsAsSoundAs, SoundHints}
-use Rattle.fallible_iterator.proofs.Lemmas.Hints.Drawn.{brackets_seen, brackets_zero_where_no_item}
+use Rattle.fallible_iterator.proofs.Lemmas.Hints.Drawn.{brackets_seen, brackets_zero_where_no_item, if_some_at_least_of_smaller}
 use Rattle.fallible_iterator.proofs.Lemmas.Hints.Joining.{if_some_fitting_sum_at_least_both}
+use Rattle.fallible_itertools_adapters.specs.Adjacent.{AdjacentItems}
 use Rattle.fallible_itertools_adapters.specs.BeforeStop.{HintsPastFailure, HintsWhereHeld, before_stop, held_hints, held_one, hint_unless_end}
 use Rattle.fallible_itertools_adapters.specs.Laws.Plan.{Always, ItemWeighs}
 use Rattle.fallible_itertools_adapters.specs.Plan.{HintBy, HintPlan, Making, Plan, calls, makes, plan_hint, plan_meets}
 use Rattle.fallible_itertools_adapters.specs.Staged.{as_function, before_rest, followed, made_first, plan_does, staged}
 use Rattle.fallible_itertools_adapters.specs.Staging.{EndsInStop, Made, due_total, items_of, made_total, stage_contract, stage_step, stop_comes}
+use Rattle.fallible_itertools_adapters.proofs.Lemmas.Adjacent.{EachNext, HoldsOfNext, adjacent_items_of_each_next}
 use Rattle.fallible_itertools_adapters.proofs.Lemmas.PlanHints.{PlanMakes, hints_as_sound_plan}
 use Rattle.fallible_itertools_adapters.proofs.Lemmas.StagingHints.{DueFew, MadeFew}
 use Rattle.fallible_itertools_adapters.proofs.Lemmas.StagingLists.{EndMade}
@@ -30,6 +32,11 @@ NoEnd (Some (a, due)) = ⊤
 pub no_end_before_failure : {B E : Type 0} (kept : Option B) (e : E) → NoEnd (before_stop kept (Some e))
 no_end_before_failure None e = tt
 no_end_before_failure (Some y) e = tt
+
+-- an end is made of one
+pub end_before_stop : {B : Type 0} (E : Type 0) (kept : Option B) → EndMade (stop_comes {B = B} {E = E}) (before_stop kept None)
+end_before_stop E None = inl refl
+end_before_stop E (Some y) = inr refl
 
 -- ---- a failure parts the list
 
@@ -67,6 +74,53 @@ module _ {Q R H X B E : Type 0} (g : Q → R) (plan : H → X → Plan Q R (Maki
     parted_by_failure h (Ok x ∷ l) e k = let t = followed (as_function g) (plan h x) tt in ap (λ j. made_first stop_comes t.0 j) (parted_by_failure t.1.0 l e k) ∙ made_first_append (Err e ∷ list_from none k) t.0 (list_from t.1.0 l) (always_of_followed (λ m. NoEnd m) g (plan h x) (no_end h x))
     parted_by_failure h (Err d ∷ l) e k = ap (λ j. made_first stop_comes (before_stop (kept h) (Some d)) j) (parted_by_failure (empty h) l e k) ∙ made_first_append (Err e ∷ list_from none k) (before_stop (kept h) (Some d)) (list_from (empty h) l) (no_end_before_failure (kept h) d)
 
+  -- ---- adjacent items are apart
+
+  -- `After z h` says that what comes of h may stand after z. What is made keeps so, and P holds of z and an item that is made.
+  module _ (P : B → B → Type 0) (Good : H → Type 0) (After : B → H → Type 0) where
+    abbrev pub Apart : H → Made B (Option E) E → H → Type 0
+    Apart h None k = (z : B) → After z h → After z k
+    Apart h (Some (Ok (Some y), None)) k = After y k × ((z : B) → After z h → P z y)
+    Apart h (Some (Ok (Some y), Some later)) k = (z : B) → After z h → P z y
+    Apart h (Some (Ok None, due)) k = ⊤
+    Apart h (Some (Err e, due)) k = ⊤
+
+    next_apart : (h : H) (made : Made B (Option E) E) (k : H) (rest : List (Result B E)) (z : B) → Apart h made k → After z h → (After z k → HoldsOfNext P z rest) → HoldsOfNext P z (made_first stop_comes made rest)
+    next_apart h None k rest z apart at next = next (apart z at)
+    next_apart h (Some (Ok (Some y), None)) k rest z apart at next = apart.1 z at
+    next_apart h (Some (Ok (Some y), Some later)) k rest z apart at next = apart z at
+    next_apart h (Some (Ok None, due)) k rest z apart at next = tt
+    next_apart h (Some (Err e, due)) k rest z apart at next = tt
+
+    each_apart : (h : H) (made : Made B (Option E) E) (k : H) (rest : List (Result B E)) → Apart h made k → ((y : B) → After y k → HoldsOfNext P y rest) → EachNext P rest → EachNext P (made_first stop_comes made rest)
+    each_apart h None k rest apart next each = each
+    each_apart h (Some (Ok (Some y), None)) k rest apart next each = (next y apart.0, each)
+    each_apart h (Some (Ok (Some y), Some None)) k rest apart next each = (tt, tt)
+    each_apart h (Some (Ok (Some y), Some (Some e))) k rest apart next each = (tt, each)
+    each_apart h (Some (Ok None, due)) k rest apart next each = tt
+    each_apart h (Some (Err e, None)) k rest apart next each = each
+    each_apart h (Some (Err e, Some None)) k rest apart next each = tt
+    each_apart h (Some (Err e, Some (Some d))) k rest apart next each = each
+
+    module _ (at_item : (h : H) (x : X) → Good h → Apart h (followed (as_function g) (plan h x) tt).0 (followed (as_function g) (plan h x) tt).1.0) (good_at_item : (h : H) (x : X) → Good h → Good (followed (as_function g) (plan h x) tt).1.0) (at_stop : (h : H) (y z : B) → kept h ≡ Some y → After z h → P z y) (good_at_stop : (h : H) → Good (empty h)) where
+      apart_at_stop : (h : H) (o : Option B) (stop : Option E) → kept h ≡ o → Apart h (before_stop o stop) (empty h)
+      apart_at_stop h None None is = tt
+      apart_at_stop h None (Some e) is = tt
+      apart_at_stop h (Some y) stop is = λ z after. at_stop h y z is after
+
+      next_of_list : (l : List (Result X E)) (h : H) (z : B) → Good h → After z h → HoldsOfNext P z (list_from h l)
+      next_of_list [] h z good after = next_apart h (before_stop (kept h) None) (empty h) [] z (apart_at_stop h (kept h) None refl) after (λ at. tt)
+      next_of_list (Ok x ∷ l) h z good after = let t = followed (as_function g) (plan h x) tt in next_apart h t.0 t.1.0 (list_from t.1.0 l) z (at_item h x good) after (next_of_list l t.1.0 z (good_at_item h x good))
+      next_of_list (Err e ∷ l) h z good after = next_apart h (before_stop (kept h) (Some e)) (empty h) (list_from (empty h) l) z (apart_at_stop h (kept h) (Some e) refl) after (next_of_list l (empty h) z (good_at_stop h))
+
+      each_of_list : (l : List (Result X E)) (h : H) → Good h → EachNext P (list_from h l)
+      each_of_list [] h good = each_apart h (before_stop (kept h) None) (empty h) [] (apart_at_stop h (kept h) None refl) (λ y at. tt) tt
+      each_of_list (Ok x ∷ l) h good = let t = followed (as_function g) (plan h x) tt in let then = good_at_item h x good in each_apart h t.0 t.1.0 (list_from t.1.0 l) (at_item h x good) (λ y after. next_of_list l t.1.0 y then after) (each_of_list l t.1.0 then)
+      each_of_list (Err e ∷ l) h good = let then = good_at_stop h in each_apart h (before_stop (kept h) (Some e)) (empty h) (list_from (empty h) l) (apart_at_stop h (kept h) (Some e) refl) (λ y after. next_of_list l (empty h) y then after) (each_of_list l (empty h) then)
+
+      pub adjacent_items_apart : (l : List (Result X E)) (h : H) → Good h → AdjacentItems P (list_from h l)
+      adjacent_items_apart l h good = adjacent_items_of_each_next P (list_from h l) (each_of_list l h good)
+
 -- ---- the hint where a stop is due
 
 module _ {S P X B E : Type 0} (steps : S → Answered X E → S → Type 0) (meets : P → Answered X E → Made B (Option E) E → P → Type 0) (s : S) (p : P) where
@@ -101,9 +155,9 @@ module _ {H F Q R X B E : Type 0} (call : F → Q → R → F → Type 0) (plan 
   hint_of h = calls tt (λ k. (low h k.0, high h k.1))
 
   above_due : (h : H) (due : Option (Option E)) (o : Option ℕ) (n : ℕ) → IfSome o (λ j. n ≤ j) → IfSome (high h o) (λ j. due_total {B = B} stop_comes items_of due + most h n ≤ j)
-  above_due h None o n le = above h o n le
-  above_due h (Some None) o n le = above h o n le
-  above_due h (Some (Some e)) o n le = above h o n le
+  above_due h None o n le = if_some_at_least_of_smaller (high h o) (0 + most h n) (most h n) (omega arith) (above h o n le)
+  above_due h (Some None) o n le = if_some_at_least_of_smaller (high h o) (0 + most h n) (most h n) (omega arith) (above h o n le)
+  above_due h (Some (Some e)) o n le = if_some_at_least_of_smaller (high h o) (0 + most h n) (most h n) (omega arith) (above h o n le)
 
   below_due : (h : H) (due : Option (Option E)) (n : ℕ) → DueFew {B = B} stop_comes due (λ k. Few h n k) (λ k. none_at_end due (low h n) ≤ k)
   below_due h None n = λ k few. below h n k few
@@ -145,7 +199,7 @@ abbrev pub HeldWhereNone : {B E : Type 0} → ℕ → Made B (Option E) E → Ty
 HeldWhereNone held None = 1 ≤ held
 HeldWhereNone held (Some made) = ⊤
 
-module _ {H X B E : Type 0} (kept : H → Option B) (empty : H → H) (held : H → ℕ) (is_held : (h : H) → held h ≡ held_one (kept h)) where
+module _ {H B : Type 0} (E : Type 0) (kept : H → Option B) (empty : H → H) (held : H → ℕ) (is_held : (h : H) → held h ≡ held_one (kept h)) where
   few_of_made : (t : Making H B (Option E) E) (before low : ℕ) → NoEnd t.0 → HeldWhereNone (held t.1) t.0 → MadeFew stop_comes t.0 (λ n. min ((low - 1) + held t.1) 1 ≤ n) (λ n. min (low + before) 1 ≤ n)
   few_of_made (None, h) before low on one = λ n after. omega (arith, after, one)
   few_of_made (Some (Ok (Some y), None), h) before low on one = λ n after. omega arith
@@ -176,7 +230,7 @@ module _ {H X B E : Type 0} (kept : H → Option B) (empty : H → H) (held : H 
   always_no_fewer h low (makes t) on one = few_of_made t (held h) low on one
   always_no_fewer h low (calls q by) on one = λ v. few_of_made (by v) (held h) low (on v) (one v)
 
-  module _ {F Q R : Type 0} (call : F → Q → R → F → Type 0) (plan : H → X → Plan Q R (Making H B (Option E) E)) (weighs : (h : H) (x : X) → Always (λ t. ItemWeighs stop_comes 1 held h t) (plan h x)) (no_end : (h : H) (x : X) → Always (λ t. NoEnd t.0) (plan h x)) (one : (h : H) (x : X) → Always (λ t. HeldWhereNone (held t.1) t.0) (plan h x)) where
+  module _ {F Q R X : Type 0} (call : F → Q → R → F → Type 0) (plan : H → X → Plan Q R (Making H B (Option E) E)) (weighs : (h : H) (x : X) → Always (λ t. ItemWeighs stop_comes 1 held h t) (plan h x)) (no_end : (h : H) (x : X) → Always (λ t. NoEnd t.0) (plan h x)) (one : (h : H) (x : X) → Always (λ t. HeldWhereNone (held t.1) t.0) (plan h x)) where
     makes_held : PlanMakes stop_comes call plan (λ h stop. (before_stop (kept h) stop, empty h)) (λ h n. n + held h) (λ h low n. min (low + held h) 1 ≤ n)
     makes_held = record {
       at_most = λ h x n. always_at_most h n (plan h x) (weighs h x);

@@ -1,15 +1,19 @@
 -- The hint of `Chunks`: how many batches come at least, and at most.
-use Rattle.std.specs.Prelude.{◌≡◌, ℕ, ◌+◌, ◌-◌, ◌*◌, ◌/◌, ◌≤◌, ◌<◌, ⊤, suc, max, cond, leb, Bool, true, false, Option, Some, None, [], ◌∷◌, length, vec_items}
+use Rattle.std.specs.Prelude.{◌≡◌, ℕ, ◌+◌, ◌-◌, ◌*◌, ◌/◌, ◌≤◌, ◌<◌, ⊤, suc, max, cond, leb, ltb, Bool, true, false, Option, Some, None, Ok, Err, [], ◌∷◌, length, vec_items}
 use Rattle.std.proofs.Common.{refl, sym, ap, subst, arith, length-append, ◌∙◌}
-use Rattle.std.proofs.lemmas.Bool.{leb-false}
+use Rattle.std.proofs.lemmas.Bool.{leb-false, ltb-true, ltb-false}
 use Rattle.std.proofs.Math.Nat.{div-lt_iff_lt-mul, div-le_self, suc-mul}
 use Rattle.fallible_iterator.specs.Contract.{Contract, parts_as}
-use Rattle.fallible_itertools_adapters.specs.Chunks.{batch_held, begun, chunks_asks, chunks_contract, chunks_due, chunks_parts, chunks_source, room_left}
-use Rattle.fallible_itertools_adapters.specs.Batch.{Grown}
 use Rattle.fallible_iterator.specs.Hints.{fitting_sum}
-use Rattle.fallible_itertools_adapters.specs.BeforeStop.{HintsWhereHeld, held_one}
-use Rattle.fallible_itertools_adapters.specs.Laws.Chunks.{holds_chunks}
-use Rattle.fallible_itertools_adapters.proofs.Lemmas.HoldingHints.{KeepsFew, hints_where_held}
+use Rattle.fallible_iterator.proofs.Lemmas.Hints.Joining.{if_some_fitting_sum_at_least_both}
+use Rattle.fallible_itertools_adapters.specs.Batch.{Grown, Put, Puts, kept_of}
+use Rattle.fallible_itertools_adapters.specs.BeforeStop.{HintsWhereHeld, before_stop, held_one}
+use Rattle.fallible_itertools_adapters.specs.Chunks.{batch_at, batch_by, batch_held, begun, chunks_contract, chunks_due, chunks_parts, chunks_plan, chunks_source, chunks_stops, puts, room_left, vec_count}
+use Rattle.fallible_itertools_adapters.specs.Laws.Chunks.{is_stage_chunks}
+use Rattle.fallible_itertools_adapters.specs.Plan.{Makes, Making, plan_meets}
+use Rattle.fallible_itertools_adapters.specs.Staging.{Made, stop_comes}
+use Rattle.fallible_itertools_adapters.proofs.Lemmas.BeforeStop.{hints_where_held_by_makes}
+use Rattle.fallible_itertools_adapters.proofs.Lemmas.StagingHints.{MadeFew, MakesNoFewer, makes_at_most_items_and_held}
 use Rattle.std.specs.declared.vec.Vec.{Vec}
 use Rattle.std.specs.declared.alloc.Global.{Global}
 use Rattle.std.specs.declared.alloc.AllocError.{AllocError}
@@ -49,24 +53,47 @@ module _ {A E : Type 0} (from : AllocError → E → Type 0) where
       subst (λ (j : ℕ). low ≤ j * max n 1) (sym at) (omega (arith, one, more, fewer, few))
   enough_begun_where_left_out n low m (Some v) x w is fewer (k, at, few) = let one : length (vec_items w) ≡ length (vec_items v) + 1 = ap length is ∙ length-append (vec_items v) (x ∷ []) in (k, at, omega (arith, one, fewer, few))
 
-  keeps_few_of_chunks_asks : KeepsFew (chunks_asks from) (λ p low m. EnoughBegun p.0 p.1 low m)
-  keeps_few_of_chunks_asks = record {
-    kept = λ p x y q low m w after. enough_begun_where_kept p.0 low m p.1 x y w.0 w.1 (subst (λ (z : ℕ × Option (Vec A Global)). EnoughBegun z.0 z.1 (low - 1) m) w.2 after);
-    left_out = λ p x q low m w after. enough_begun_where_left_out p.0 low m p.1 x w.0 w.1 w.2 (subst (λ (z : ℕ × Option (Vec A Global)). EnoughBegun z.0 z.1 (low - 1) m) w.3 after);
-    kept_at_end = λ p y q w. subst (λ (z : Option (Vec A Global)). EnoughBegun p.0 z 0 1) (sym w.0) (0, refl, omega arith);
-    none_at_end = λ p q w. subst (λ (z : Option (Vec A Global)). EnoughBegun p.0 z 0 0) (sym w.0) (omega arith);
+  few_of_batch_at : (h : ℕ × Option (Vec A Global)) (x : A) (w : Vec A Global) (few : Bool) (low : ℕ) → ltb (vec_count w) h.0 ≡ few → Grown h.1 x w → MadeFew stop_comes (batch_at {E = E} h.0 w few).0 (λ n. EnoughBegun h.0 (batch_at {E = E} h.0 w few).1.1 (low - 1) n) (λ n. EnoughBegun h.0 h.1 low n)
+  few_of_batch_at h x w true low is grown = λ n after. enough_begun_where_left_out h.0 low n h.1 x w grown (ltb-true (vec_count w) h.0 is) after
+  few_of_batch_at h x w false low is grown = λ n after. enough_begun_where_kept h.0 low n h.1 x w grown (ltb-false (vec_count w) h.0 is) after
+
+  few_before_failure : (held : Option (Vec A Global)) (e : E) (after before : ℕ → Type 0) → MadeFew stop_comes (before_stop held (Some e)) after before
+  few_before_failure None e after before = tt
+  few_before_failure (Some v) e after before = tt
+
+  few_of_put : (h : ℕ × Option (Vec A Global)) (x : A) (put : Put (Vec A Global) E) (low : ℕ) → Puts from h.1 x put → MadeFew stop_comes (batch_by vec_count h put).0 (λ n. EnoughBegun h.0 (batch_by vec_count h put).1.1 (low - 1) n) (λ n. EnoughBegun h.0 h.1 low n)
+  few_of_put h x (Ok w) low grown = few_of_batch_at h x w (ltb (vec_count w) h.0) low refl grown
+  few_of_put h x (Err (kept, e)) low w = few_before_failure (kept_of h.1 kept) e _ _
+
+  size_of_put : (h : ℕ × Option (Vec A Global)) (put : Put (Vec A Global) E) → (batch_by vec_count h put).1.0 ≡ h.0
+  size_of_put h (Err r) = refl
+  size_of_put h (Ok w) = size_at h w (ltb (vec_count w) h.0)
+    where
+      size_at : (h : ℕ × Option (Vec A Global)) (w : Vec A Global) (few : Bool) → (batch_at {E = E} h.0 w few).1.0 ≡ h.0
+      size_at h w true = refl
+      size_at h w false = refl
+
+  few_at_end : (n : ℕ) (held : Option (Vec A Global)) (after : ℕ → Type 0) → MadeFew {E = E} stop_comes (before_stop held None) after (λ m. EnoughBegun n held 0 m)
+  few_at_end n None after = omega arith
+  few_at_end n (Some v) after = (0, refl, omega arith)
+
+  abbrev Few : (ℕ × Option (Vec A Global)) × Unit {0} → ℕ → ℕ → Type 0
+  Few p low m = EnoughBegun p.0.0 p.0.1 low m
+
+  few_of_making : (h : ℕ × Option (Vec A Global)) (t : Making (ℕ × Option (Vec A Global)) (Vec A Global) (Option E) E) (made : Made (Vec A Global) (Option E) E) (k : ℕ × Option (Vec A Global)) (low i : ℕ) → Makes t made k → t.1.0 ≡ h.0 → MadeFew stop_comes t.0 (λ n. EnoughBegun h.0 t.1.1 i n) (λ n. EnoughBegun h.0 h.1 low n) → MadeFew stop_comes made (λ n. EnoughBegun k.0 k.1 i n) (λ n. EnoughBegun h.0 h.1 low n)
+  few_of_making h t made k low i w same few = subst (λ m. MadeFew stop_comes m (λ n. EnoughBegun k.0 k.1 i n) (λ n. EnoughBegun h.0 h.1 low n)) (sym w.0) (subst (λ (j : ℕ × Option (Vec A Global)). MadeFew stop_comes t.0 (λ n. EnoughBegun j.0 j.1 i n) (λ n. EnoughBegun h.0 h.1 low n)) (sym w.1) (subst (λ (j : ℕ). MadeFew stop_comes t.0 (λ n. EnoughBegun j t.1.1 i n) (λ n. EnoughBegun h.0 h.1 low n)) (sym same) few))
+
+  chunks_make_no_fewer : MakesNoFewer stop_comes (plan_meets (puts from) (chunks_plan vec_count) chunks_stops) Few
+  chunks_make_no_fewer = record {
+    at_item = λ p x made q low w. few_of_making p.0 (batch_by vec_count p.0 w.0) made q.0 low (low - 1) w.2 (size_of_put p.0 w.0) (few_of_put p.0 x w.0 low w.1);
+    at_end = λ p made q w. few_of_making p.0 (chunks_stops p.0 None) made q.0 0 0 w.0 refl (few_at_end p.0.0 p.0.1 _);
+    at_failure = λ p e made q low w. few_of_making p.0 (chunks_stops p.0 (Some e)) made q.0 low 0 w.0 refl (few_before_failure p.0.1 e _ _);
   }
 
   held_one_and_begun_at_most : (n low m : ℕ) (held : Option (Vec A Global)) → EnoughBegun n held low m → held_one held + begun n (room_left n held) low ≤ m
   held_one_and_begun_at_most n low m None few = let k : begun n 0 low ≤ m = begun_at_most n 0 low m (omega (arith, few)) in omega (arith, k)
   held_one_and_begun_at_most n low m (Some v) (k, at, few) = let j : begun n (room_left n (Some v)) low ≤ k = begun_at_most n (room_left n (Some v)) low k few in omega (arith, j, at)
 
-module _ {S A E : Type 0} (m : Contract S A E) (from : AllocError → E → Type 0) where
-  abbrev IsBegun : S → ℕ × Option (Vec A Global) → ℕ × Option ℕ → Type 0
-  IsBegun it p h = (k : ℕ × Option ℕ) × m.hints it k × (h.0 ≡ held_one p.1 + begun p.0 (room_left p.0 p.1) k.0) × (h.1 ≡ fitting_sum k.1 (Some (held_one p.1)))
-
-  source_hint_bounds_where_begun : (it : S) (p : ℕ × Option (Vec A Global)) (h : ℕ × Option ℕ) → IsBegun it p h → (k : ℕ × Option ℕ) × m.hints it k × ((n : ℕ) → EnoughBegun from p.0 p.1 k.0 n → h.0 ≤ n) × (h.1 ≡ fitting_sum k.1 (Some (batch_held p)))
-  source_hint_bounds_where_begun it p h is = (is.0, is.1, (λ n few. rw is.2 (held_one_and_begun_at_most from p.0 is.0.0 n p.1 few)), is.3)
-
-  pub hints_where_held_of_chunks : HintsWhereHeld (parts_as chunks_parts (chunks_contract from m)) (chunks_due {I = S} {A = A} {E = E}) m chunks_source
-  hints_where_held_of_chunks = hints_where_held chunks_parts (chunks_contract from m).can_next m (chunks_asks from) (λ p x. ⊤) batch_held (holds_chunks from) (λ p low n. EnoughBegun from p.0 p.1 low n) (keeps_few_of_chunks_asks from) IsBegun source_hint_bounds_where_begun
+pub hints_where_held_of_chunks : {S A E : Type 0} (m : Contract S A E) (from : AllocError → E → Type 0) → HintsWhereHeld (parts_as chunks_parts (chunks_contract from m)) (chunks_due {I = S} {A = A} {E = E}) m chunks_source
+hints_where_held_of_chunks m from = hints_where_held_by_makes (puts from) (chunks_plan vec_count) chunks_stops (λ h n. n + batch_held h) (λ h low n. EnoughBegun from h.0 h.1 low n) (makes_at_most_items_and_held stop_comes (plan_meets (puts from) (chunks_plan vec_count) chunks_stops) (λ p. batch_held p.0) (is_stage_chunks from)) (chunks_make_no_fewer from)
+    (λ h k. held_one h.1 + begun h.0 (room_left h.0 h.1) k) (λ h o. fitting_sum o (Some (held_one h.1))) (λ h o n le. if_some_fitting_sum_at_least_both o (Some (held_one h.1)) n (held_one h.1) (n + held_one h.1) (omega arith) le (omega arith)) (λ h low n few. held_one_and_begun_at_most from h.0 low n h.1 few) chunks_parts m (λ P p. ⊤) 1 (λ p. batch_held p.0)

@@ -1,12 +1,111 @@
--- What `deduped_with_count` lists, beside the groups that `chunked_by` makes of the items by themselves, and beside `deduped`.
+-- What `deduped_by_with_count` lists beside what is listed without the numbers, and `deduped_with_count` beside the groups that `chunked_by` makes of the items by themselves.
 use Rattle.std.specs.Prelude.{◌≡◌, ℕ, ◌+◌, ◌-◌, ◌^◌, min, Bool, true, false, Option, Some, None, Result, Ok, Err, List, [], ◌∷◌, ◌++◌, length}
-use Rattle.std.proofs.Common.{refl, ap, arith, length-append, ◌∙◌}
+use Rattle.std.proofs.Common.{refl, sym, ap, arith, length-append, ◌∙◌}
 use Rattle.fallible_iterator.specs.Lists.{mapped}
 use Rattle.fallible_itertools_adapters.specs.ChunkBy.{chunked_by, chunked_by_from, group_or}
-use Rattle.fallible_itertools_adapters.specs.Dedup.{dedup_before, deduped, deduped_at}
+use Rattle.fallible_itertools_adapters.specs.Dedup.{dedup_plan, dedup_stops, deduped, unless_same}
 use Rattle.fallible_itertools_adapters.specs.DedupBy.{deduped_by, deduped_by_from, same_before}
-use Rattle.fallible_itertools_adapters.specs.RunCounts.{counted_before, counted_from, deduped_with_count, one_more}
-use Rattle.fallible_itertools_adapters.proofs.Lemmas.RunCounts.{counted_in_parts, deduped_by_of_counted}
+use Rattle.fallible_itertools_adapters.specs.Staged.{as_function, made_first, plan_does, staged}
+use Rattle.fallible_itertools_adapters.specs.Staging.{stop_comes}
+use Rattle.fallible_itertools_adapters.specs.RunCounts.{deduped_by_with_count, deduped_with_count, first_once_more, one_more}
+use Rattle.fallible_itertools_adapters.proofs.Lemmas.RunCounts.{counted_first, counted_from, counted_before_failure, counted_of_failed, counted_of_failure, counted_of_none, counted_of_one, counted_of_other, counted_of_same}
+
+-- ---- without the numbers
+
+module _ {A E : Type 0} (h : A → A → Result Bool E) where
+  -- f lists the first of adjacent items that h finds the same
+  pub record ListsFirsts (f : List (Result A E) → List (Result A E)) : Type 0 where
+    pub none : f [] ≡ []
+    pub one : (x : A) → f (Ok x ∷ []) ≡ Ok x ∷ []
+    pub same : (y x : A) (l : List (Result A E)) → h y x ≡ Ok true → f (Ok y ∷ Ok x ∷ l) ≡ f (Ok y ∷ l)
+    pub other : (y x : A) (l : List (Result A E)) → h y x ≡ Ok false → f (Ok y ∷ Ok x ∷ l) ≡ Ok y ∷ f (Ok x ∷ l)
+    pub failed : (y x : A) (e : E) (l : List (Result A E)) → h y x ≡ Err e → f (Ok y ∷ Ok x ∷ l) ≡ Ok y ∷ Err e ∷ f l
+    pub failure : (e : E) (l : List (Result A E)) → f (Err e ∷ l) ≡ Err e ∷ f l
+    pub before_failure : (y : A) (e : E) (l : List (Result A E)) → f (Ok y ∷ Err e ∷ l) ≡ Ok y ∷ Err e ∷ f l
+
+  abbrev uncounted : List (Result (ℕ × A) E) → List (Result A E)
+  uncounted l = mapped (λ p. Ok p.1) l
+
+  uncounted_once_more : (l : List (Result (ℕ × A) E)) → uncounted (first_once_more l) ≡ uncounted l
+  unfolding mapped
+  uncounted_once_more [] = refl
+  uncounted_once_more (Ok p ∷ l) = refl
+  uncounted_once_more (Err e ∷ l) = refl
+
+  uncounted_item_first : (p : ℕ × A) (l : List (Result (ℕ × A) E)) → uncounted (Ok p ∷ l) ≡ Ok p.1 ∷ uncounted l
+  unfolding mapped
+  uncounted_item_first p l = refl
+
+  uncounted_failure_first : (e : E) (l : List (Result (ℕ × A) E)) → uncounted (Err e ∷ l) ≡ Err e ∷ uncounted l
+  unfolding mapped
+  uncounted_failure_first e l = refl
+
+  uncounted_none : uncounted [] ≡ []
+  unfolding mapped
+  uncounted_none = refl
+
+  module _ (f : List (Result A E) → List (Result A E)) (firsts : ListsFirsts f) where
+    abbrev SameItems : List (Result A E) → Type 0
+    SameItems l = uncounted (deduped_by_with_count h l) ≡ f l
+
+    same_items_before_failure : (y : A) (e : E) (l : List (Result A E)) → SameItems l → uncounted (Ok (1, y) ∷ Err e ∷ deduped_by_with_count h l) ≡ Ok y ∷ Err e ∷ f l
+    same_items_before_failure y e l rest = uncounted_item_first (1, y) _ ∙ ap (λ k. Ok y ∷ k) (uncounted_failure_first e _ ∙ ap (λ k. Err e ∷ k) rest)
+
+    same_items_of_two : (y x : A) (v : Result Bool E) (l : List (Result A E)) → h y x ≡ v → SameItems (Ok y ∷ l) → SameItems (Ok x ∷ l) → SameItems l → SameItems (Ok y ∷ Ok x ∷ l)
+    same_items_of_two y x (Ok true) l is first second rest = ap uncounted (counted_of_same h y x l is) ∙ uncounted_once_more _ ∙ first ∙ sym (firsts.same y x l is)
+    same_items_of_two y x (Ok false) l is first second rest = ap uncounted (counted_of_other h y x l is) ∙ uncounted_item_first (1, y) _ ∙ ap (λ k. Ok y ∷ k) second ∙ sym (firsts.other y x l is)
+    same_items_of_two y x (Err e) l is first second rest = ap uncounted (counted_of_failed h y x e l is) ∙ same_items_before_failure y e l rest ∙ sym (firsts.failed y x e l is)
+
+    -- of a list, and of each item before it
+    same_items_from : (l : List (Result A E)) → SameItems l × ((y : A) → SameItems (Ok y ∷ l))
+    same_items_from [] = (ap uncounted (counted_of_none h) ∙ uncounted_none ∙ sym firsts.none, λ y. ap uncounted (counted_of_one h y) ∙ uncounted_item_first (1, y) [] ∙ ap (λ k. Ok y ∷ k) uncounted_none ∙ sym (firsts.one y))
+    same_items_from (Ok x ∷ l) = let k = same_items_from l in (k.1 x, λ y. same_items_of_two y x (h y x) l refl (k.1 y) (k.1 x) k.0)
+    same_items_from (Err e ∷ l) = let k = same_items_from l in (ap uncounted (counted_of_failure h e l) ∙ uncounted_failure_first e _ ∙ ap (λ j. Err e ∷ j) k.0 ∙ sym (firsts.failure e l), λ y. ap uncounted (counted_before_failure h y e l) ∙ same_items_before_failure y e l k.0 ∙ sym (firsts.before_failure y e l))
+
+    -- Without the numbers it is what f lists.
+    pub items_of_counted : (l : List (Result A E)) → mapped (λ p. Ok p.1) (deduped_by_with_count h l) ≡ f l
+    items_of_counted l = (same_items_from l).0
+
+module _ {A E : Type 0} (h : A → A → Result Bool E) where
+  deduped_by_lists_firsts : ListsFirsts h (deduped_by h)
+  unfolding deduped_by deduped_by_from
+  deduped_by_lists_firsts = record {
+    none = refl;
+    one = λ x. refl;
+    same = λ y x l is. ap (λ v. same_before y x v (λ held. deduped_by_from h held l)) is;
+    other = λ y x l is. ap (λ v. same_before y x v (λ held. deduped_by_from h held l)) is;
+    failed = λ y x e l is. ap (λ v. same_before y x v (λ held. deduped_by_from h held l)) is;
+    failure = λ e l. refl;
+    before_failure = λ y e l. refl;
+  }
+
+  pub items_of_deduped_by_with_count : (l : List (Result A E)) → mapped (λ p. Ok p.1) (deduped_by_with_count h l) ≡ deduped_by h l
+  items_of_deduped_by_with_count l = items_of_counted h (deduped_by h) deduped_by_lists_firsts l
+
+module _ {A E : Type 0} (eq : A → A → Bool) where
+  abbrev firsts_from : Option A → List (Result A E) → List (Result A E)
+  firsts_from held l = staged stop_comes (plan_does (as_function (λ u. u)) (dedup_plan eq) dedup_stops) (held, tt) l
+
+  firsts_of_two : (y x : A) (b : Bool) (l : List (Result A E)) → eq y x ≡ b → firsts_from (Some y) (Ok x ∷ l) ≡ made_first stop_comes (unless_same {E = E} y x b).0 (firsts_from (unless_same {E = E} y x b).1 l)
+  firsts_of_two y x b l is = ap (λ c. made_first stop_comes (unless_same {E = E} y x c).0 (firsts_from (unless_same {E = E} y x c).1 l)) is
+
+  deduped_lists_firsts : ListsFirsts {E = E} (λ y x. Ok (eq y x)) (deduped eq)
+  unfolding deduped
+  deduped_lists_firsts = record {
+    none = refl;
+    one = λ x. refl;
+    same = λ y x l is. firsts_of_two y x true l cc;
+    other = λ y x l is. firsts_of_two y x false l cc;
+    failed = λ y x e l is. absurd cc;
+    failure = λ e l. refl;
+    before_failure = λ y e l. refl;
+  }
+
+  pub items_of_deduped_with_count : (l : List (Result A E)) → mapped (λ p. Ok p.1) (deduped_with_count eq l) ≡ deduped eq l
+  unfolding deduped_with_count
+  items_of_deduped_with_count l = items_of_counted (λ y x. Ok (eq y x)) (deduped eq) deduped_lists_firsts l
+
+-- ---- by groups
 
 module _ {A : Type 0} where
   -- the item beside how many the group has, of which the item is the first
@@ -25,8 +124,8 @@ module _ {A : Type 0} where
 
 module _ {A E : Type 0} (eq : A → A → Bool) where
   -- whether two items are equal
-  abbrev are_equal : A → A → Result Bool E
-  are_equal y x = Ok (eq y x)
+  abbrev equal_or_not : A → A → Result Bool E
+  equal_or_not y x = Ok (eq y x)
 
   abbrev groups_from : Option (A × List A) → List (Result A E) → List (Result (A × List A) E)
   groups_from a l = chunked_by_from eq (λ x. Ok x) a l
@@ -36,55 +135,26 @@ module _ {A E : Type 0} (eq : A → A → Bool) where
 
   -- of the rest, whatever is held before it
   abbrev SameCounts : List (Result A E) → Type 0
-  SameCounts l = (a : Option (A × List A)) → counted_from are_equal (held_counted a) l ≡ groups_counted (groups_from a l)
+  SameCounts l = (a : Option (A × List A)) → counted_from equal_or_not (held_counted a) l ≡ groups_counted (groups_from a l)
 
-  counted_from_one_is_groups_counted : (x : A) (l : List (Result A E)) → SameCounts l → counted_from are_equal (Some (1, x)) l ≡ groups_counted (groups_from (Some (x, x ∷ [])) l)
-  counted_from_one_is_groups_counted x l rest = ap (λ p. counted_from are_equal (Some p) l) (group_counted_of_one_item x) ∙ rest (Some (x, x ∷ []))
+  counted_from_one_is_groups_counted : (x : A) (l : List (Result A E)) → SameCounts l → counted_from equal_or_not (Some (1, x)) l ≡ groups_counted (groups_from (Some (x, x ∷ [])) l)
+  counted_from_one_is_groups_counted x l rest = ap (λ p. counted_from equal_or_not (Some p) l) (group_counted_of_one_item x) ∙ rest (Some (x, x ∷ []))
 
-  counted_before_is_groups_counted_of_group_or : (g : A × List A) (x : A) (b : Bool) (l : List (Result A E)) → SameCounts l → counted_before (group_counted g) x (Ok b) (λ held. counted_from are_equal held l) ≡ groups_counted (group_or eq (λ x. Ok x) g b (groups_from (Some (g.0, g.1 ++ x ∷ [])) l) (groups_from (Some (x, x ∷ [])) l))
+  counted_first_is_groups_counted : (g : A × List A) (x : A) (b : Bool) (l : List (Result A E)) → SameCounts l → counted_first equal_or_not (group_counted g) x (Ok b) l ≡ groups_counted (group_or eq (λ x. Ok x) g b (groups_from (Some (g.0, g.1 ++ x ∷ [])) l) (groups_from (Some (x, x ∷ [])) l))
   unfolding mapped
-  counted_before_is_groups_counted_of_group_or g x true l rest = ap (λ p. counted_from are_equal (Some p) l) (group_counted_of_appended_is_one_more g x) ∙ rest (Some (g.0, g.1 ++ x ∷ []))
-  counted_before_is_groups_counted_of_group_or g x false l rest = ap (λ k. Ok (group_counted g) ∷ k) (counted_from_one_is_groups_counted x l rest)
+  counted_first_is_groups_counted g x true l rest = ap (λ p. counted_from equal_or_not (Some p) l) (group_counted_of_appended_is_one_more g x) ∙ rest (Some (g.0, g.1 ++ x ∷ []))
+  counted_first_is_groups_counted g x false l rest = ap (λ k. Ok (group_counted g) ∷ k) (counted_from_one_is_groups_counted x l rest)
 
-  counted_from_is_groups_counted : (a : Option (A × List A)) (l : List (Result A E)) → counted_from are_equal (held_counted a) l ≡ groups_counted (groups_from a l)
-  unfolding mapped counted_from chunked_by_from
+  counted_from_is_groups_counted : (a : Option (A × List A)) (l : List (Result A E)) → counted_from equal_or_not (held_counted a) l ≡ groups_counted (groups_from a l)
+  unfolding mapped chunked_by_from
   counted_from_is_groups_counted None [] = refl
   counted_from_is_groups_counted (Some g) [] = refl
   counted_from_is_groups_counted None (Ok x ∷ l) = counted_from_one_is_groups_counted x l (λ a. counted_from_is_groups_counted a l)
-  counted_from_is_groups_counted (Some g) (Ok x ∷ l) = counted_before_is_groups_counted_of_group_or g x (eq g.0 x) l (λ a. counted_from_is_groups_counted a l)
+  counted_from_is_groups_counted (Some g) (Ok x ∷ l) = counted_first_is_groups_counted g x (eq g.0 x) l (λ a. counted_from_is_groups_counted a l)
   counted_from_is_groups_counted None (Err e ∷ l) = ap (λ k. Err e ∷ k) (counted_from_is_groups_counted None l)
   counted_from_is_groups_counted (Some g) (Err e ∷ l) = ap (λ k. Ok (group_counted g) ∷ Err e ∷ k) (counted_from_is_groups_counted None l)
 
   -- Each item is beside the number of items of the group that it begins.
   pub deduped_with_count_is_mapped_chunked_by : (l : List (Result A E)) → deduped_with_count eq l ≡ mapped (λ g. Ok (min (length g.1) (2 ^ 64 - 1), g.0)) (chunked_by eq (λ x. Ok x) l)
-  unfolding deduped_with_count chunked_by
+  unfolding deduped_with_count deduped_by_with_count chunked_by
   deduped_with_count_is_mapped_chunked_by l = counted_from_is_groups_counted None l
-
-  -- ---- without the numbers
-
-  same_before_is_dedup_before : (y x : A) (b : Bool) (l : List (Result A E)) → ((a : Option A) → deduped_by_from are_equal a l ≡ deduped_at eq a l) → same_before y x (Ok b) (λ held. deduped_by_from are_equal held l) ≡ dedup_before eq y x b (deduped_at eq (Some y) l) (deduped_at eq (Some x) l)
-  same_before_is_dedup_before y x true l rest = rest (Some y)
-  same_before_is_dedup_before y x false l rest = ap (λ k. Ok y ∷ k) (rest (Some x))
-
-  deduped_by_from_equal_is_deduped_at : (a : Option A) (l : List (Result A E)) → deduped_by_from are_equal a l ≡ deduped_at eq a l
-  unfolding deduped_by_from deduped_at
-  deduped_by_from_equal_is_deduped_at None [] = refl
-  deduped_by_from_equal_is_deduped_at (Some y) [] = refl
-  deduped_by_from_equal_is_deduped_at None (Ok x ∷ l) = deduped_by_from_equal_is_deduped_at (Some x) l
-  deduped_by_from_equal_is_deduped_at (Some y) (Ok x ∷ l) = same_before_is_dedup_before y x (eq y x) l (λ a. deduped_by_from_equal_is_deduped_at a l)
-  deduped_by_from_equal_is_deduped_at None (Err e ∷ l) = ap (λ k. Err e ∷ k) (deduped_by_from_equal_is_deduped_at None l)
-  deduped_by_from_equal_is_deduped_at (Some y) (Err e ∷ l) = ap (λ k. Ok y ∷ Err e ∷ k) (deduped_by_from_equal_is_deduped_at None l)
-
-  deduped_by_equal_is_deduped : (l : List (Result A E)) → deduped_by are_equal l ≡ deduped eq l
-  unfolding deduped_by deduped
-  deduped_by_equal_is_deduped l = deduped_by_from_equal_is_deduped_at None l
-
-  -- Without the numbers it is what `deduped` lists.
-  pub items_of_deduped_with_count_is_deduped : (l : List (Result A E)) → mapped (λ p. Ok p.1) (deduped_with_count eq l) ≡ deduped eq l
-  unfolding deduped_with_count
-  items_of_deduped_with_count_is_deduped l = deduped_by_of_counted are_equal l ∙ deduped_by_equal_is_deduped l
-
-  -- What stands before a failure is counted by itself, and so is what comes after it.
-  pub deduped_with_count_in_parts : (a : List (Result A E)) (e : E) (b : List (Result A E)) → deduped_with_count eq (a ++ Err e ∷ b) ≡ deduped_with_count eq a ++ Err e ∷ deduped_with_count eq b
-  unfolding deduped_with_count
-  deduped_with_count_in_parts a e b = counted_in_parts are_equal a e b

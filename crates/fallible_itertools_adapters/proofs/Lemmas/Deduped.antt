@@ -1,94 +1,71 @@
--- What `deduped` and `deduped_by_key` are.
-use Rattle.std.specs.Prelude.{◌≡◌, Bool, true, false, Option, Some, None, Result, Ok, Err, List, [], ◌∷◌, ◌++◌, ⊤}
-use Rattle.std.proofs.Common.{refl, sym, ap, ◌∙◌}
-use Rattle.fallible_iterator.specs.Lists.{filter_mapped, items, nth_of}
-use Rattle.fallible_itertools_adapters.specs.Adjacent.{AdjacentItems, HaveKeys}
-use Rattle.fallible_itertools_adapters.specs.ChunkBy.{by_its_key, chunked_by, chunked_by_from, group_or}
-use Rattle.fallible_itertools_adapters.specs.Dedup.{deduped, deduped_at, dedup_before}
-use Rattle.fallible_itertools_adapters.specs.DedupByKey.{deduped_by_key, deduped_key_from, key_at, key_before}
-use Rattle.fallible_itertools_adapters.proofs.Lemmas.Adjacent.{EachNext, HoldsOfNext, adjacent_items_of_each_next}
+-- What `deduped` and `deduped_by_key` are beside each other, and beside `chunked_by`.
+use Rattle.std.specs.Prelude.{◌≡◌, Bool, true, false, Option, Some, None, Result, Ok, Err, List, [], ◌∷◌, ◌++◌}
+use Rattle.std.proofs.Common.{refl, sym, ap, subst, ◌∙◌}
+use Rattle.fallible_iterator.specs.Lists.{filter_mapped, items, nth_of, result_answer}
+use Rattle.fallible_iterator.specs.Traces.{Answered, end}
+use Rattle.fallible_itertools_adapters.specs.ChunkBy.{chunked_by}
+use Rattle.fallible_itertools_adapters.specs.Dedup.{dedup_plan, dedup_stops, deduped, unless_same}
+use Rattle.fallible_itertools_adapters.specs.DedupByKey.{dedup_key_plan, dedup_key_stops, deduped_by_key, keyed_by, unless_same_key}
+use Rattle.fallible_itertools_adapters.specs.Plan.{Making}
+use Rattle.fallible_itertools_adapters.specs.Staged.{as_function, made_first, plan_does, staged}
+use Rattle.fallible_itertools_adapters.specs.Staging.{Made, stop_comes}
+use Rattle.fallible_itertools_adapters.proofs.Lemmas.ChunkedBy.{group_or, grouped_at, grouped_at_next, grouped_from}
 
-module _ {A K : Type 0} (E : Type 0) (eq : K → K → Bool) (h : A → Result K E) where
-  -- two items have keys that differ
-  abbrev Differ : A → A → Type 0
-  Differ x y = HaveKeys h (λ k j. eq k j ≡ false) x y
+-- ---- two stages that make the same
 
-  holds_of_next_of_key_before : (z : A) (p : K × A) (b : Bool) (same other : List (Result A E)) → Differ z p.1 → HoldsOfNext Differ z same → HoldsOfNext Differ z (key_before eq p b same other)
-  holds_of_next_of_key_before z p true same other d at = at
-  holds_of_next_of_key_before z p false same other d at = d
-
-  next_key_differs : (z x : A) (p : K × A) (v : Result K E) (rest : Option (K × A) → List (Result A E)) → Differ z p.1 → HoldsOfNext Differ z (rest (Some p)) → HoldsOfNext Differ z (key_at eq (Some p) x v rest)
-  next_key_differs z x p (Ok k) rest d at = holds_of_next_of_key_before z p (eq p.0 k) (rest (Some p)) (rest (Some (k, x))) d at
-  next_key_differs z x p (Err e) rest d at = d
-
-  -- what is held comes first
-  next_held : (z : A) (p : K × A) (l : List (Result A E)) → Differ z p.1 → HoldsOfNext Differ z (deduped_key_from eq h (Some p) l)
-  unfolding deduped_key_from
-  next_held z p [] d = d
-  next_held z p (Ok x ∷ l) d = next_key_differs z x p (h x) (λ q. deduped_key_from eq h q l) d (next_held z p l d)
-  next_held z p (Err e ∷ l) d = d
-
-  -- what is held has its key
-  abbrev IsKeyed : Option (K × A) → Type 0
-  IsKeyed None = ⊤
-  IsKeyed (Some p) = h p.1 ≡ Ok p.0
-
-  each_next_of_key_before : (x : A) (p : K × A) (k : K) (b : Bool) (same other : List (Result A E)) → eq p.0 k ≡ b → (eq p.0 k ≡ false → HoldsOfNext Differ p.1 other) → EachNext Differ same → EachNext Differ other → EachNext Differ (key_before eq p b same other)
-  each_next_of_key_before x p k true same other is next h_same h_other = h_same
-  each_next_of_key_before x p k false same other is next h_same h_other = (next is, h_other)
-
-  each_keyed : (x : A) (o : Option (K × A)) (v : Result K E) (l : List (Result A E)) → h x ≡ v → IsKeyed o → ((q : Option (K × A)) → IsKeyed q → EachNext Differ (deduped_key_from eq h q l)) → EachNext Differ (key_at eq o x v (λ q. deduped_key_from eq h q l))
-  each_keyed x None (Ok k) l is keyed rest = rest (Some (k, x)) is
-  each_keyed x None (Err e) l is keyed rest = rest None tt
-  each_keyed x (Some p) (Ok k) l is keyed rest = each_next_of_key_before x p k (eq p.0 k) _ _ refl (λ differ. next_held p.1 (k, x) l (p.0, k, keyed, is, differ)) (rest (Some p) keyed) (rest (Some (k, x)) is)
-  each_keyed x (Some p) (Err e) l is keyed rest = (tt, rest None tt)
-
-  each_from : (o : Option (K × A)) (l : List (Result A E)) → IsKeyed o → EachNext Differ (deduped_key_from eq h o l)
-  unfolding deduped_key_from
-  each_from None [] keyed = tt
-  each_from (Some p) [] keyed = (tt, tt)
-  each_from o (Ok x ∷ l) keyed = each_keyed x o (h x) l refl keyed (λ q k. each_from q l k)
-  each_from None (Err e ∷ l) keyed = each_from None l tt
-  each_from (Some p) (Err e ∷ l) keyed = (tt, each_from None l tt)
-
-  pub adjacent_deduped_by_key_differ : (l : List (Result A E)) → AdjacentItems Differ (deduped_by_key eq h l)
-  unfolding deduped_by_key
-  adjacent_deduped_by_key_differ l = adjacent_items_of_each_next Differ (deduped_by_key eq h l) (each_from None l tt)
+module _ {L Y X E P Q : Type 0} (comes : L → Option (Answered Y E)) (f : P → Answered X E → Made Y L E × P) (g : Q → Answered X E → Made Y L E × Q) (Alike : P → Q → Type 0) (alike : (p : P) (q : Q) (a : Answered X E) → Alike p q → ((f p a).0 ≡ (g q a).0) × Alike (f p a).1 (g q a).1) where
+  staged_alike : (l : List (Result X E)) (p : P) (q : Q) → Alike p q → staged comes f p l ≡ staged comes g q l
+  staged_alike [] p q same = ap (λ m. made_first comes m []) (alike p q end same).0
+  staged_alike (y ∷ l) p q same = let k = alike p q (result_answer y) same in ap (λ m. made_first comes m (staged comes f (f p (result_answer y)).1 l)) k.0 ∙ ap (λ r. made_first comes (g q (result_answer y)).0 r) (staged_alike l (f p (result_answer y)).1 (g q (result_answer y)).1 k.1)
 
 -- ---- by the item itself
 
+-- what is held, as its own key
+abbrev as_key : {A : Type 0} → Option A → Option (A × A)
+as_key None = None
+as_key (Some y) = Some (y, y)
+
 module _ {A : Type 0} (E : Type 0) (eq : A → A → Bool) where
-  -- what is held, as its own key
-  abbrev as_key : Option A → Option (A × A)
-  as_key None = None
-  as_key (Some y) = Some (y, y)
+  abbrev by_item : Option A × Unit {0} → Answered A E → Making (Option A × Unit {0}) A (Option E) E
+  by_item = plan_does (as_function (λ u. u)) (dedup_plan eq) dedup_stops
 
-  dedup_before_is_key_before : (y x : A) (b : Bool) (same other same_key other_key : List (Result A E)) → same ≡ same_key → other ≡ other_key → dedup_before eq y x b same other ≡ key_before eq (y, y) b same_key other_key
-  dedup_before_is_key_before y x true same other same_key other_key is_same is_other = is_same
-  dedup_before_is_key_before y x false same other same_key other_key is_same is_other = ap {B = List (Result A E)} (λ k. Ok y ∷ k) is_other
+  abbrev by_own_key : Option (A × A) × Unit {0} → Answered A E → Making (Option (A × A) × Unit {0}) A (Option E) E
+  by_own_key = plan_does (as_function (λ x. Ok x)) (dedup_key_plan eq) dedup_key_stops
 
-  deduped_at_is_deduped_key_from : (o : Option A) (l : List (Result A E)) → deduped_at eq o l ≡ deduped_key_from eq (λ x. Ok x) (as_key o) l
-  unfolding deduped_at deduped_key_from
-  deduped_at_is_deduped_key_from None [] = refl
-  deduped_at_is_deduped_key_from (Some y) [] = refl
-  deduped_at_is_deduped_key_from None (Ok x ∷ l) = deduped_at_is_deduped_key_from (Some x) l
-  deduped_at_is_deduped_key_from (Some y) (Ok x ∷ l) = dedup_before_is_key_before y x (eq y x) _ _ _ _ (deduped_at_is_deduped_key_from (Some y) l) (deduped_at_is_deduped_key_from (Some x) l)
-  deduped_at_is_deduped_key_from None (Err e ∷ l) = ap {B = List (Result A E)} (λ k. Err e ∷ k) (deduped_at_is_deduped_key_from None l)
-  deduped_at_is_deduped_key_from (Some y) (Err e ∷ l) = ap {B = List (Result A E)} (λ k. Ok y ∷ Err e ∷ k) (deduped_at_is_deduped_key_from None l)
+  -- the same is made, and the same is held then
+  abbrev MadeAlike : Making (Option A × Unit {0}) A (Option E) E → Making (Option (A × A) × Unit {0}) A (Option E) E → Type 0
+  MadeAlike s t = (s.0 ≡ t.0) × (as_key s.1.0 ≡ t.1.0)
+
+  unless_same_alike : (y x : A) (b : Bool) → ((unless_same {E = E} y x b).0 ≡ (unless_same_key eq (y, y) (x, x) b).0) × (as_key (unless_same {E = E} y x b).1 ≡ (unless_same_key eq {E = E} (y, y) (x, x) b).1)
+  unless_same_alike y x true = (refl, refl)
+  unless_same_alike y x false = (refl, refl)
+
+  own_key_alike : (held : Option A) (a : Answered A E) → MadeAlike (by_item (held, tt) a) (by_own_key (as_key held, tt) a)
+  own_key_alike None (Ok (Some x)) = (refl, refl)
+  own_key_alike (Some y) (Ok (Some x)) = unless_same_alike y x (eq y x)
+  own_key_alike None (Ok None) = (refl, refl)
+  own_key_alike (Some y) (Ok None) = (refl, refl)
+  own_key_alike None (Err e) = (refl, refl)
+  own_key_alike (Some y) (Err e) = (refl, refl)
 
   pub deduped_is_deduped_by_key : (l : List (Result A E)) → deduped eq l ≡ deduped_by_key eq (λ x. Ok x) l
   unfolding deduped deduped_by_key
-  deduped_is_deduped_by_key l = deduped_at_is_deduped_key_from None l
-
-  eq_is_false_where_differ : (x y : A) → Differ E eq (λ x. Ok x) x y → eq x y ≡ false
-  eq_is_false_where_differ x y (k, j, is, also, differ) = let first : x ≡ k = cc in let next : y ≡ j = cc in rw first (rw next differ)
-
-  pub deduped_differ : (l : List (Result A E)) → AdjacentItems (λ x y. eq x y ≡ false) (deduped eq l)
-  deduped_differ l before x y after e = eq_is_false_where_differ x y (adjacent_deduped_by_key_differ E eq (λ x. Ok x) l before x y after (sym (deduped_is_deduped_by_key l) ∙ e))
+  deduped_is_deduped_by_key l = staged_alike stop_comes by_item by_own_key (λ p q. as_key p.0 ≡ q.0) (λ p q a same. subst (λ (k : Option (A × A)). MadeAlike (by_item (p.0, tt) a) (by_own_key (k, tt) a)) same (own_key_alike p.0 a)) l (None, tt) (None, tt) refl
 
 -- ---- the first of each group
 
 module _ {A K : Type 0} (E : Type 0) (eq : K → K → Bool) (h : A → Result K E) where
+  -- what `deduped_by_key` makes of the list where this is held before it
+  abbrev keyed_from : Option (K × A) → List (Result A E) → List (Result A E)
+  keyed_from held l = staged stop_comes (plan_does (as_function h) (dedup_key_plan eq) dedup_key_stops) (held, tt) l
+
+  -- the same, where this comes of the next item; and where v is its key
+  abbrev keyed_then : Making (Option (K × A)) A (Option E) E → List (Result A E) → List (Result A E)
+  keyed_then t l = made_first stop_comes t.0 (keyed_from t.1 l)
+
+  abbrev keyed_at : Option (K × A) → A → Result K E → List (Result A E) → List (Result A E)
+  keyed_at held x v l = keyed_then (keyed_by eq held x v) l
+
   -- the first items of the groups
   abbrev firsts : List (Result (K × List A) E) → List (Result A E)
   firsts l = filter_mapped (λ g. nth_of 0 (items g.1)) l
@@ -105,10 +82,6 @@ module _ {A K : Type 0} (E : Type 0) (eq : K → K → Bool) (h : A → Result K
   unfolding filter_mapped
   firsts_of_none = refl
 
-  first_or : (k : K) (x : A) (xs : List A) (b : Bool) (same other : List (Result A E)) (more another : List (Result (K × List A) E)) → same ≡ firsts more → other ≡ firsts another → key_before eq (k, x) b same other ≡ firsts (group_or eq h (k, x ∷ xs) b more another)
-  first_or k x xs true same other more another is_same is_other = is_same
-  first_or k x xs false same other more another is_same is_other = ap {B = List (Result A E)} (λ l. Ok x ∷ l) is_other ∙ sym (firsts_of_group k x xs another)
-
   -- a group that is held, with its key, its first item and the others
   abbrev item_held : Option (K × A × List A) → Option (K × A)
   item_held None = None
@@ -118,27 +91,30 @@ module _ {A K : Type 0} (E : Type 0) (eq : K → K → Bool) (h : A → Result K
   group_held None = None
   group_held (Some g) = Some (g.0, g.1 ∷ g.2)
 
+  first_or : (k : K) (x : A) (xs : List A) (y : A) (j : K) (l : List (Result A E)) (b : Bool) (more another : List (Result (K × List A) E)) → keyed_from (Some (k, x)) l ≡ firsts more → keyed_from (Some (j, y)) l ≡ firsts another → keyed_then (unless_same_key eq (k, x) (j, y) b) l ≡ firsts (group_or eq h (k, x ∷ xs) b more another)
+  first_or k x xs y j l true more another is_same is_other = is_same
+  first_or k x xs y j l false more another is_same is_other = ap {B = List (Result A E)} (λ l. Ok x ∷ l) is_other ∙ sym (firsts_of_group k x xs another)
+
   -- of the rest, whatever is held before it
   abbrev SameFirsts : List (Result A E) → Type 0
-  SameFirsts l = (a : Option (K × A × List A)) → deduped_key_from eq h (item_held a) l ≡ firsts (chunked_by_from eq h (group_held a) l)
+  SameFirsts l = (a : Option (K × A × List A)) → keyed_from (item_held a) l ≡ firsts (grouped_from eq h (group_held a) l)
 
-  key_at_none_is_firsts_by_its_key : (y : A) (v : Result K E) (l : List (Result A E)) → SameFirsts l → key_at eq None y v (λ o. deduped_key_from eq h o l) ≡ firsts (by_its_key eq h None v (λ k. chunked_by_from eq h (Some (k, y ∷ [])) l) (chunked_by_from eq h None l))
-  key_at_none_is_firsts_by_its_key y (Ok k) l rest = rest (Some (k, y, []))
-  key_at_none_is_firsts_by_its_key y (Err e) l rest = ap {B = List (Result A E)} (λ k. Err e ∷ k) (rest None) ∙ sym (firsts_of_failure e (chunked_by_from eq h None l))
+  first_of_none_held : (y : A) (v : Result K E) (l : List (Result A E)) → SameFirsts l → keyed_at None y v l ≡ firsts (grouped_at eq h None y v l)
+  first_of_none_held y (Ok k) l rest = rest (Some (k, y, []))
+  first_of_none_held y (Err e) l rest = ap {B = List (Result A E)} (λ k. Err e ∷ k) (rest None) ∙ sym (firsts_of_failure e (grouped_from eq h None l))
 
-  key_at_held_is_firsts_by_its_key : (k : K) (x : A) (xs : List A) (y : A) (v : Result K E) (l : List (Result A E)) → SameFirsts l → key_at eq (Some (k, x)) y v (λ o. deduped_key_from eq h o l) ≡ firsts (by_its_key eq h (Some (k, x ∷ xs)) v (λ j. group_or eq h (k, x ∷ xs) (eq k j) (chunked_by_from eq h (Some (k, (x ∷ xs) ++ y ∷ [])) l) (chunked_by_from eq h (Some (j, y ∷ [])) l)) (chunked_by_from eq h None l))
-  key_at_held_is_firsts_by_its_key k x xs y (Ok j) l rest = first_or k x xs (eq k j) _ _ _ _ (rest (Some (k, x, xs ++ y ∷ []))) (rest (Some (j, y, [])))
-  key_at_held_is_firsts_by_its_key k x xs y (Err e) l rest = ap {B = List (Result A E)} (λ l. Ok x ∷ Err e ∷ l) (rest None) ∙ sym (ap {B = List (Result A E)} (λ l. Ok x ∷ l) (firsts_of_failure e (chunked_by_from eq h None l))) ∙ sym (firsts_of_group k x xs (Err e ∷ chunked_by_from eq h None l))
+  first_of_held : (k : K) (x : A) (xs : List A) (y : A) (v : Result K E) (l : List (Result A E)) → SameFirsts l → keyed_at (Some (k, x)) y v l ≡ firsts (grouped_at eq h (Some (k, x ∷ xs)) y v l)
+  first_of_held k x xs y (Ok j) l rest = first_or k x xs y j l (eq k j) _ _ (rest (Some (k, x, xs ++ y ∷ []))) (rest (Some (j, y, []))) ∙ sym (ap firsts (grouped_at_next eq h (k, x ∷ xs) y j l))
+  first_of_held k x xs y (Err e) l rest = ap {B = List (Result A E)} (λ l. Ok x ∷ Err e ∷ l) (rest None) ∙ sym (ap {B = List (Result A E)} (λ l. Ok x ∷ l) (firsts_of_failure e (grouped_from eq h None l))) ∙ sym (firsts_of_group k x xs (Err e ∷ grouped_from eq h None l))
 
-  deduped_key_from_is_firsts_of_chunked : (a : Option (K × A × List A)) (l : List (Result A E)) → deduped_key_from eq h (item_held a) l ≡ firsts (chunked_by_from eq h (group_held a) l)
-  unfolding deduped_key_from chunked_by_from
-  deduped_key_from_is_firsts_of_chunked None [] = sym firsts_of_none
-  deduped_key_from_is_firsts_of_chunked (Some g) [] = ap {B = List (Result A E)} (λ l. Ok g.1 ∷ l) (sym firsts_of_none) ∙ sym (firsts_of_group g.0 g.1 g.2 [])
-  deduped_key_from_is_firsts_of_chunked None (Ok y ∷ l) = key_at_none_is_firsts_by_its_key y (h y) l (λ a. deduped_key_from_is_firsts_of_chunked a l)
-  deduped_key_from_is_firsts_of_chunked (Some g) (Ok y ∷ l) = key_at_held_is_firsts_by_its_key g.0 g.1 g.2 y (h y) l (λ a. deduped_key_from_is_firsts_of_chunked a l)
-  deduped_key_from_is_firsts_of_chunked None (Err e ∷ l) = ap {B = List (Result A E)} (λ k. Err e ∷ k) (deduped_key_from_is_firsts_of_chunked None l) ∙ sym (firsts_of_failure e (chunked_by_from eq h None l))
-  deduped_key_from_is_firsts_of_chunked (Some g) (Err e ∷ l) = ap {B = List (Result A E)} (λ k. Ok g.1 ∷ Err e ∷ k) (deduped_key_from_is_firsts_of_chunked None l) ∙ sym (ap {B = List (Result A E)} (λ k. Ok g.1 ∷ k) (firsts_of_failure e (chunked_by_from eq h None l))) ∙ sym (firsts_of_group g.0 g.1 g.2 (Err e ∷ chunked_by_from eq h None l))
+  keyed_from_is_firsts_of_grouped : (a : Option (K × A × List A)) (l : List (Result A E)) → keyed_from (item_held a) l ≡ firsts (grouped_from eq h (group_held a) l)
+  keyed_from_is_firsts_of_grouped None [] = sym firsts_of_none
+  keyed_from_is_firsts_of_grouped (Some g) [] = ap {B = List (Result A E)} (λ l. Ok g.1 ∷ l) (sym firsts_of_none) ∙ sym (firsts_of_group g.0 g.1 g.2 [])
+  keyed_from_is_firsts_of_grouped None (Ok y ∷ l) = first_of_none_held y (h y) l (λ a. keyed_from_is_firsts_of_grouped a l)
+  keyed_from_is_firsts_of_grouped (Some g) (Ok y ∷ l) = first_of_held g.0 g.1 g.2 y (h y) l (λ a. keyed_from_is_firsts_of_grouped a l)
+  keyed_from_is_firsts_of_grouped None (Err e ∷ l) = ap {B = List (Result A E)} (λ k. Err e ∷ k) (keyed_from_is_firsts_of_grouped None l) ∙ sym (firsts_of_failure e (grouped_from eq h None l))
+  keyed_from_is_firsts_of_grouped (Some g) (Err e ∷ l) = ap {B = List (Result A E)} (λ k. Ok g.1 ∷ Err e ∷ k) (keyed_from_is_firsts_of_grouped None l) ∙ sym (ap {B = List (Result A E)} (λ k. Ok g.1 ∷ k) (firsts_of_failure e (grouped_from eq h None l))) ∙ sym (firsts_of_group g.0 g.1 g.2 (Err e ∷ grouped_from eq h None l))
 
   pub deduped_by_key_is_firsts_of_chunked_by : (l : List (Result A E)) → deduped_by_key eq h l ≡ firsts (chunked_by eq h l)
   unfolding deduped_by_key chunked_by
-  deduped_by_key_is_firsts_of_chunked_by l = deduped_key_from_is_firsts_of_chunked None l
+  deduped_by_key_is_firsts_of_chunked_by l = keyed_from_is_firsts_of_grouped None l

@@ -1,114 +1,138 @@
--- What `counted_from` lists, as what is held lists it, and beside what is listed without the numbers.
-use Rattle.std.specs.Prelude.{◌≡◌, ℕ, ◌≤◌, Bool, true, false, Option, Some, None, Result, Ok, Err, List, [], ◌∷◌, ◌++◌}
-use Rattle.std.proofs.Common.{refl, ap, arith}
-use Rattle.fallible_iterator.specs.Lists.{mapped}
-use Rattle.fallible_itertools_adapters.specs.DedupBy.{deduped_by, deduped_by_from, same_before}
-use Rattle.fallible_itertools_adapters.specs.BeforeStop.{held_one}
-use Rattle.fallible_itertools_adapters.specs.RunCounts.{counted_before, counted_from, counted_same, deduped_by_with_count, one_more}
-use Rattle.fallible_itertools_adapters.proofs.Lemmas.HoldingLists.{by_outcome, held_list, splits_at_failure_where_is_held_list}
-use Rattle.fallible_iterator.specs.Outcome.{Outcome}
-use Rattle.fallible_iterator.specs.Outcome.TheVariants.{Kept, LeftOut, Failure, End}
+-- What `DedupWithCount` and `DedupByWithCount` list, and their hints.
+use Rattle.std.specs.Prelude.{◌≡◌, ℕ, Bool, true, false, ⊤, Option, Some, None, Result, Ok, Err, List, [], ◌∷◌, ◌++◌}
+use Rattle.std.proofs.Common.{refl, ap, subst, inl, inr, arith, ◌∙◌}
+use Rattle.std.specs.Fn.{Mut}
+use Rattle.std.specs.Borrow.{Bor}
+use Rattle.fallible_iterator.specs.Contract.{Contract, parts_as}
+use Rattle.fallible_iterator.specs.Lists.{ActsWith, Lists}
+use Rattle.fallible_iterator.specs.Picking.{call_at_two}
+use Rattle.fallible_iterator.specs.Traces.{Answered}
+use Rattle.fallible_iterator.proofs.Lemmas.Lists.Passing.{lists_seen}
+use Rattle.fallible_itertools_adapters.specs.BeforeStop.{HintsWhereHeld, before_stop, held_hints, held_one}
+use Rattle.fallible_itertools_adapters.specs.DedupByWithCount.{dedup_by_with_count_contract, dedup_by_with_count_parts}
+use Rattle.fallible_itertools_adapters.specs.DedupWithCount.{are_equal, dedup_with_count_contract, dedup_with_count_parts}
+use Rattle.fallible_itertools_adapters.specs.Laws.Plan.{Always}
+use Rattle.fallible_itertools_adapters.specs.Laws.RunCounts.{count_weighs}
+use Rattle.fallible_itertools_adapters.specs.Plan.{bounded, call_on_pair, plan_hint, plan_meets}
+use Rattle.fallible_itertools_adapters.specs.RunCounts.{count_plan, count_stops, counted_by, deduped_by_with_count, deduped_with_count, first_once_more, one_more}
+use Rattle.fallible_itertools_adapters.specs.Staged.{as_function, calls_function, made_first, plan_does, staged}
+use Rattle.fallible_itertools_adapters.specs.Staging.{Made, stage_contract, stop_comes}
+use Rattle.fallible_itertools_adapters.proofs.Lemmas.BeforeStop.{HeldWhereNone, NoEnd, hints_where_one_held, parted_by_failure}
+use Rattle.fallible_itertools_adapters.proofs.Lemmas.Staged.{gives_plan}
+use Rattle.fallible_itertools_adapters.proofs.Lemmas.StagingLists.{EndMade}
+use Rattle.fallible_itertools_adapters.specs.declared.dedup_by_with_count.DedupByWithCount.{DedupByWithCount}
+use Rattle.fallible_itertools_adapters.specs.declared.dedup_with_count.DedupWithCount.{DedupWithCount}
 
-module _ {A E : Type 0} where
-  abbrev pub held_after_counted : ℕ × A → A → Result Bool E → Option (ℕ × A)
-  held_after_counted p x (Ok true) = Some (one_more p.0, p.1)
-  held_after_counted p x (Ok false) = Some (1, x)
-  held_after_counted p x (Err e) = Some p
+module _ (A E : Type 0) where
+  pub count_stops_end : (held : Option (ℕ × A)) → EndMade (stop_comes {E = E}) (count_stops held None).0
+  count_stops_end None = inl refl
+  count_stops_end (Some p) = inr refl
 
-  abbrev pub outcome_of_counted : ℕ × A → Result Bool E → Outcome (ℕ × A) E
-  outcome_of_counted p (Ok true) = LeftOut
-  outcome_of_counted p (Ok false) = Kept p
-  outcome_of_counted p (Err e) = Failure e
+  counted_no_end : (p : ℕ × A) (x : A) (v : Result Bool E) → NoEnd (counted_by p x v).0
+  counted_no_end p x (Ok true) = tt
+  counted_no_end p x (Ok false) = tt
+  counted_no_end p x (Err e) = tt
 
-  pub counted_same_is_function : (p : ℕ × A) (x : A) (v : Result Bool E) (o : Outcome (ℕ × A) E) (q : Option (ℕ × A)) → counted_same p x v o q → (q ≡ held_after_counted p x v) × (o ≡ outcome_of_counted p v)
-  counted_same_is_function p x (Ok true) o q w = (w.1, w.0)
-  counted_same_is_function p x (Ok false) o q w = (w.1, w.0)
-  counted_same_is_function p x (Err e) o q w = (w.1, w.0)
+  count_no_end : (held : Option (ℕ × A)) (x : A) → Always (λ t. NoEnd {E = E} t.0) (count_plan held x)
+  count_no_end None x = tt
+  count_no_end (Some p) x = λ v. counted_no_end p x v
 
-  pub held_one_of_counted_left_out : (p : ℕ × A) (x : A) (v : Result Bool E) (q : Option (ℕ × A)) → counted_same p x v LeftOut q → 1 ≤ held_one q
-  held_one_of_counted_left_out p x (Ok true) q w = rw w.1 (omega arith)
-  held_one_of_counted_left_out p x (Ok false) q w = absurd (let is = w.0 in cc)
-  held_one_of_counted_left_out p x (Err e) q w = absurd (let is = w.0 in cc)
+-- what comes where the closure failed, if p was held
+pub failed_where_held : {A E : Type 0} (p : ℕ × A) (e : E) (made : Made (ℕ × A) (Option E) E) (held : Option (ℕ × A)) → made ≡ before_stop held (Some e) → held ≡ Some p → made ≡ before_stop (Some p) (Some e)
+failed_where_held p e made held is same = is ∙ ap (λ o. before_stop o (Some e)) same
+
+-- ---- the list
 
 module _ {A E : Type 0} (h : A → A → Result Bool E) where
-  abbrev pub held_after_count : Option (ℕ × A) → Option A → Option (ℕ × A)
-  held_after_count None (Some x) = Some (1, x)
-  held_after_count (Some p) (Some x) = held_after_counted p x (h p.1 x)
-  held_after_count None None = None
-  held_after_count (Some p) None = None
+  abbrev compared_by : A × A → Result Bool E
+  compared_by both = h both.0 both.1
 
-  abbrev pub count_outcome : Option (ℕ × A) → Option A → Outcome (ℕ × A) E
-  count_outcome None (Some x) = LeftOut
-  count_outcome (Some p) (Some x) = outcome_of_counted p (h p.1 x)
-  count_outcome None None = End
-  count_outcome (Some p) None = Kept p
+  -- the list where this is held before it
+  abbrev pub counted_from : Option (ℕ × A) → List (Result A E) → List (Result (ℕ × A) E)
+  counted_from held l = staged stop_comes (plan_does (as_function compared_by) count_plan count_stops) (held, tt) l
 
-  none_held_after_end : (a : Option (ℕ × A)) → held_after_count a None ≡ None
-  none_held_after_end None = refl
-  none_held_after_end (Some p) = refl
+  -- what comes of an item x before what comes of the rest, if p is held
+  abbrev pub counted_first : ℕ × A → A → Result Bool E → List (Result A E) → List (Result (ℕ × A) E)
+  counted_first p x v l = made_first stop_comes (counted_by p x v).0 (counted_from (counted_by p x v).1 l)
 
-  outcome_of_counted_never_ends : (p : ℕ × A) (v : Result Bool E) → outcome_of_counted p v ≡ End → ⊥
-  outcome_of_counted_never_ends p (Ok true) is = absurd cc
-  outcome_of_counted_never_ends p (Ok false) is = absurd cc
-  outcome_of_counted_never_ends p (Err e) is = absurd cc
+  counted_from_item : (p : ℕ × A) (x : A) (v : Result Bool E) (l : List (Result A E)) → h p.1 x ≡ v → counted_from (Some p) (Ok x ∷ l) ≡ counted_first p x v l
+  counted_from_item p x v l is = ap (λ w. counted_first p x w l) is
 
-  count_outcome_never_end : (a : Option (ℕ × A)) (x : A) → count_outcome a (Some x) ≡ End → ⊥
-  count_outcome_never_end None x is = absurd cc
-  count_outcome_never_end (Some p) x is = outcome_of_counted_never_ends p (h p.1 x) is
+  -- ---- its equations
 
-  by_outcome_of_counted : (p : ℕ × A) (x : A) (v : Result Bool E) (l : List (Result A E)) → ((a : Option (ℕ × A)) → held_list count_outcome held_after_count a l ≡ counted_from h a l) → by_outcome count_outcome held_after_count (outcome_of_counted p v) (held_after_counted p x v) l ≡ counted_before p x v (λ held. counted_from h held l)
-  by_outcome_of_counted p x (Ok true) l rest = rest (Some (one_more p.0, p.1))
-  by_outcome_of_counted p x (Ok false) l rest = ap (λ k. Ok p ∷ k) (rest (Some (1, x)))
-  by_outcome_of_counted p x (Err e) l rest = ap (λ k. Ok p ∷ Err e ∷ k) (rest None)
+  pub counted_of_none : deduped_by_with_count h [] ≡ []
+  unfolding deduped_by_with_count
+  counted_of_none = refl
 
-  pub held_list_is_counted_from : (a : Option (ℕ × A)) (l : List (Result A E)) → held_list count_outcome held_after_count a l ≡ counted_from h a l
-  unfolding counted_from
-  held_list_is_counted_from None [] = refl
-  held_list_is_counted_from (Some p) [] = refl
-  held_list_is_counted_from None (Ok x ∷ l) = held_list_is_counted_from (Some (1, x)) l
-  held_list_is_counted_from (Some p) (Ok x ∷ l) = by_outcome_of_counted p x (h p.1 x) l (λ a. held_list_is_counted_from a l)
-  held_list_is_counted_from None (Err e ∷ l) = ap (λ k. Err e ∷ k) (held_list_is_counted_from None l)
-  held_list_is_counted_from (Some p) (Err e ∷ l) = ap (λ k. Ok p ∷ Err e ∷ k) (held_list_is_counted_from None l)
+  pub counted_of_one : (x : A) → deduped_by_with_count h (Ok x ∷ []) ≡ Ok (1, x) ∷ []
+  unfolding deduped_by_with_count
+  counted_of_one x = refl
+
+  once_more_first : (n : ℕ) (y x : A) (v : Result Bool E) (l : List (Result A E)) → ((m : ℕ) → counted_from (Some (one_more m, y)) l ≡ first_once_more (counted_from (Some (m, y)) l)) → counted_first (one_more n, y) x v l ≡ first_once_more (counted_first (n, y) x v l)
+  once_more_first n y x (Ok true) l rest = rest (one_more n)
+  once_more_first n y x (Ok false) l rest = refl
+  once_more_first n y x (Err e) l rest = refl
+
+  counted_from_one_more : (l : List (Result A E)) (n : ℕ) (y : A) → counted_from (Some (one_more n, y)) l ≡ first_once_more (counted_from (Some (n, y)) l)
+  counted_from_one_more [] n y = refl
+  counted_from_one_more (Ok x ∷ l) n y = once_more_first n y x (h y x) l (λ m. counted_from_one_more l m y)
+  counted_from_one_more (Err e ∷ l) n y = refl
+
+  pub counted_of_same : (y x : A) (l : List (Result A E)) → h y x ≡ Ok true → deduped_by_with_count h (Ok y ∷ Ok x ∷ l) ≡ first_once_more (deduped_by_with_count h (Ok y ∷ l))
+  unfolding deduped_by_with_count
+  counted_of_same y x l is = counted_from_item (1, y) x (Ok true) l is ∙ counted_from_one_more l 1 y
+
+  pub counted_of_other : (y x : A) (l : List (Result A E)) → h y x ≡ Ok false → deduped_by_with_count h (Ok y ∷ Ok x ∷ l) ≡ Ok (1, y) ∷ deduped_by_with_count h (Ok x ∷ l)
+  unfolding deduped_by_with_count
+  counted_of_other y x l is = counted_from_item (1, y) x (Ok false) l is
+
+  pub counted_of_failed : (y x : A) (e : E) (l : List (Result A E)) → h y x ≡ Err e → deduped_by_with_count h (Ok y ∷ Ok x ∷ l) ≡ Ok (1, y) ∷ Err e ∷ deduped_by_with_count h l
+  unfolding deduped_by_with_count
+  counted_of_failed y x e l is = counted_from_item (1, y) x (Err e) l is
+
+  pub counted_of_failure : (e : E) (l : List (Result A E)) → deduped_by_with_count h (Err e ∷ l) ≡ Err e ∷ deduped_by_with_count h l
+  unfolding deduped_by_with_count
+  counted_of_failure e l = refl
+
+  pub counted_before_failure : (y : A) (e : E) (l : List (Result A E)) → deduped_by_with_count h (Ok y ∷ Err e ∷ l) ≡ Ok (1, y) ∷ Err e ∷ deduped_by_with_count h l
+  unfolding deduped_by_with_count
+  counted_before_failure y e l = refl
 
   -- What stands before a failure is counted by itself, and so is what comes after it.
-  pub counted_in_parts : (a : List (Result A E)) (e : E) (b : List (Result A E)) → counted_from h None (a ++ Err e ∷ b) ≡ counted_from h None a ++ Err e ∷ counted_from h None b
-  counted_in_parts a e b = splits_at_failure_where_is_held_list count_outcome held_after_count None none_held_after_end count_outcome_never_end (counted_from h None) (held_list_is_counted_from None) a e b
-
-  -- ---- without the numbers
-
-  abbrev uncounted : List (Result (ℕ × A) E) → List (Result A E)
-  uncounted l = mapped (λ p. Ok p.1) l
-
-  -- the item that is held
-  abbrev item_held : Option (ℕ × A) → Option A
-  item_held None = None
-  item_held (Some p) = Some p.1
-
-  uncounted_before_is_same_before : (p : ℕ × A) (x : A) (v : Result Bool E) (l : List (Result A E)) → ((a : Option (ℕ × A)) → uncounted (counted_from h a l) ≡ deduped_by_from h (item_held a) l) → uncounted (counted_before p x v (λ held. counted_from h held l)) ≡ same_before p.1 x v (λ held. deduped_by_from h held l)
-  unfolding mapped
-  uncounted_before_is_same_before p x (Ok true) l rest = rest (Some (one_more p.0, p.1))
-  uncounted_before_is_same_before p x (Ok false) l rest = ap (λ k. Ok p.1 ∷ k) (rest (Some (1, x)))
-  uncounted_before_is_same_before p x (Err e) l rest = ap (λ k. Ok p.1 ∷ Err e ∷ k) (rest None)
-
-  uncounted_from_is_deduped_by_from : (a : Option (ℕ × A)) (l : List (Result A E)) → uncounted (counted_from h a l) ≡ deduped_by_from h (item_held a) l
-  unfolding mapped counted_from deduped_by_from
-  uncounted_from_is_deduped_by_from None [] = refl
-  uncounted_from_is_deduped_by_from (Some p) [] = refl
-  uncounted_from_is_deduped_by_from None (Ok x ∷ l) = uncounted_from_is_deduped_by_from (Some (1, x)) l
-  uncounted_from_is_deduped_by_from (Some p) (Ok x ∷ l) = uncounted_before_is_same_before p x (h p.1 x) l (λ a. uncounted_from_is_deduped_by_from a l)
-  uncounted_from_is_deduped_by_from None (Err e ∷ l) = ap (λ k. Err e ∷ k) (uncounted_from_is_deduped_by_from None l)
-  uncounted_from_is_deduped_by_from (Some p) (Err e ∷ l) = ap (λ k. Ok p.1 ∷ Err e ∷ k) (uncounted_from_is_deduped_by_from None l)
-
-  -- Without the numbers it is what `deduped_by` lists.
-  pub deduped_by_of_counted : (l : List (Result A E)) → mapped (λ p. Ok p.1) (counted_from h None l) ≡ deduped_by h l
-  unfolding deduped_by
-  deduped_by_of_counted l = uncounted_from_is_deduped_by_from None l
-
-  -- The same of the word that callers have.
-  pub deduped_by_with_count_in_parts : (a : List (Result A E)) (e : E) (b : List (Result A E)) → deduped_by_with_count h (a ++ Err e ∷ b) ≡ deduped_by_with_count h a ++ Err e ∷ deduped_by_with_count h b
+  pub counted_in_parts : (a : List (Result A E)) (e : E) (b : List (Result A E)) → deduped_by_with_count h (a ++ Err e ∷ b) ≡ deduped_by_with_count h a ++ Err e ∷ deduped_by_with_count h b
   unfolding deduped_by_with_count
-  deduped_by_with_count_in_parts a e b = counted_in_parts a e b
+  counted_in_parts a e b = parted_by_failure compared_by count_plan (λ held. held) (λ held. None) None (λ held. refl) (count_no_end A E) None a e b
 
-  pub deduped_by_of_deduped_by_with_count : (l : List (Result A E)) → mapped (λ p. Ok p.1) (deduped_by_with_count h l) ≡ deduped_by h l
-  unfolding deduped_by_with_count
-  deduped_by_of_deduped_by_with_count l = deduped_by_of_counted l
+pub deduped_with_count_is_by : {A E : Type 0} (eq : A → A → Bool) (l : List (Result A E)) → deduped_with_count eq l ≡ deduped_by_with_count (λ y x. Ok (eq y x)) l
+unfolding deduped_with_count
+deduped_with_count_is_by eq l = refl
+
+pub deduped_with_count_in_parts : {A E : Type 0} (eq : A → A → Bool) (a : List (Result A E)) (e : E) (b : List (Result A E)) → deduped_with_count eq (a ++ Err e ∷ b) ≡ deduped_with_count eq a ++ Err e ∷ deduped_with_count eq b
+unfolding deduped_with_count
+deduped_with_count_in_parts eq a e b = counted_in_parts (λ y x. Ok (eq y x)) a e b
+
+-- ---- that it is listed
+
+pub lists_deduped_with_count : {S A E : Type 0} {it : S} (m : Contract S A E) (eq : A → A → Bool) (s : DedupWithCount S A E) (l : List (Result A E)) → dedup_with_count_parts s ≡ (it, ((None, tt), None)) → Lists m.steps it l → Lists (parts_as dedup_with_count_parts (dedup_with_count_contract eq m)).steps s (deduped_with_count eq l)
+unfolding deduped_with_count deduped_by_with_count
+lists_deduped_with_count {A = A} {E = E} {it = it} m eq s l parts i = lists_seen dedup_with_count_parts (dedup_with_count_contract eq m).steps s parts refl (gives_plan m.steps stop_comes (calls_function (are_equal eq)) count_plan count_stops (as_function (are_equal eq)) (λ f z. ⊤) (λ f z q v g at called. (called, tt)) (count_stops_end A E) l it None tt tt tt i.runs)
+
+pub lists_deduped_by_with_count : {S A F E : Type 0} {it : S} (m : Contract S A E) (g : Mut F (Bor A × (Bor A × Unit {0})) (Result Bool E)) (s : DedupByWithCount S F A E) (f : F) (h : A → A → Result Bool E) (l : List (Result A E)) → dedup_by_with_count_parts s ≡ (it, ((None, f), None)) → ActsWith (call_at_two g) f h → Lists m.steps it l
+    → Lists (parts_as dedup_by_with_count_parts (dedup_by_with_count_contract g m)).steps s (deduped_by_with_count h l)
+unfolding deduped_by_with_count
+lists_deduped_by_with_count {A = A} {E = E} {it = it} m g s f h l parts acts i = lists_seen dedup_by_with_count_parts (dedup_by_with_count_contract g m).steps s parts refl (gives_plan m.steps stop_comes (call_on_pair (call_at_two g)) count_plan count_stops (as_function (λ both. h both.0 both.1)) (λ p z. p ≡ f) (λ p z q v k is called. let d = acts q.0 q.1 v k (subst (λ c. call_at_two g c q.0 q.1 v k) is called) in (d.1, d.0)) (count_stops_end A E) l it None f tt refl i.runs)
+
+-- ---- the hint
+
+module _ {F A E : Type 0} (call : F → A × A → Result Bool E → F → Type 0) where
+  counted_held_where_none : (p : ℕ × A) (x : A) (v : Result Bool E) → HeldWhereNone (held_one (counted_by p x v).1) (counted_by p x v).0
+  counted_held_where_none p x (Ok true) = omega arith
+  counted_held_where_none p x (Ok false) = tt
+  counted_held_where_none p x (Err e) = tt
+
+  held_where_none : (held : Option (ℕ × A)) (x : A) → Always (λ t. HeldWhereNone {E = E} (held_one t.1) t.0) (count_plan held x)
+  held_where_none None x = omega arith
+  held_where_none (Some p) x = λ v. counted_held_where_none p x v
+
+  pub hints_counted : {V S : Type 0} (view : V → S × ((Option (ℕ × A) × F) × Option (Option E))) (m : Contract S A E) (can : (Answered A E → Type 0) → Option (ℕ × A) × F → Type 0) → HintsWhereHeld (parts_as view (stage_contract (bounded m) stop_comes (plan_meets call count_plan count_stops) can 1 (λ p. held_one p.0) (plan_hint (bounded m) (held_hints held_one)))) (λ s. (view s).1.1) m (λ s. (view s).0)
+  hints_counted view m can = let w = hints_where_one_held (λ held. held) (λ held. None) held_one (λ held. refl) call count_plan (count_weighs E) (count_no_end A E) held_where_none view (bounded m) can 1 in record { none_due = w.none_due; due = w.due; failure_due = w.failure_due }

@@ -1,84 +1,39 @@
 -- The contract of `ChunkBy` is lawful where the source's is.
-use Rattle.std.specs.Prelude.{Bool, true, false, Option, Some, None, Result, Ok, Err, List, [], ◌∷◌}
+use Rattle.std.specs.Prelude.{Bool, true, false, Option, Some, None, Result, Ok, Err}
 use Rattle.std.specs.Fn.{Mut}
 use Rattle.std.specs.Borrow.{Bor}
-use Rattle.std.specs.List.{FoldsTo}
-use Rattle.std.proofs.Common.{ap, subst, sym, arith}
+use Rattle.std.proofs.Common.{refl, arith}
 use Rattle.fallible_iterator.specs.Contract.{Contract, Lawful}
-use Rattle.fallible_iterator.specs.Closures.{IsCallable, Reaches, call_by_reference, takes_by_reference}
-use Rattle.fallible_iterator.specs.Laws.Closures.{is_callable_after, reaches_reflexive, reaches_by_call_first}
-use Rattle.fallible_iterator.specs.Traces.{Answered}
-use Rattle.fallible_itertools_adapters.specs.BeforeStop.{held_one}
-use Rattle.fallible_itertools_adapters.specs.Holding.{Holds, HeldAfter, MayBeAsked, OrStop, holding_meets, one_at_least}
-use Rattle.fallible_itertools_adapters.specs.ChunkBy.{Group, group_at, group_begun, group_grown, group_by, group_at_stop, group_held, chunk_by_asks, chunk_by_contract, key_takes}
-use Rattle.fallible_itertools_adapters.specs.Laws.Holding.{invariant_holds_after_met, lawful_holding_where}
-use Rattle.fallible_itertools_adapters.specs.Laws.Staging.{kept_where_reached}
-use Rattle.fallible_iterator.specs.Outcome.{Outcome}
-use Rattle.fallible_iterator.specs.Outcome.TheVariants.{Kept, LeftOut, Failure, End}
+use Rattle.fallible_itertools_adapters.specs.BeforeStop.{before_stop, held_hints, held_one}
+use Rattle.fallible_itertools_adapters.specs.ChunkBy.{KeyedPut, chunk_by_contract, chunk_by_plan, chunk_by_stops, group_at, group_by, group_kept, puts_by_key, takes_key}
+use Rattle.fallible_itertools_adapters.specs.Laws.Plan.{ItemWeighs, before_stop_weighs, is_stage_plan, lawful_bounded, lawful_closure}
+use Rattle.fallible_itertools_adapters.specs.Plan.{plan_meets}
+use Rattle.fallible_itertools_adapters.specs.Staging.{IsStage, stop_comes}
 use Rattle.std.specs.declared.alloc.AllocError.{AllocError}
 
-module _ {A K E : Type 0} (from : AllocError → E → Type 0) (eq : K → K → Bool) where
-  held_after_begun : (g : Option (Group K A)) (x : A) (k : K) (o : Outcome (Group K A) E) (q : Option (Group K A)) → group_begun from g x k o q → HeldAfter (held_one g) (Some x) o (held_one q)
-  held_after_begun None x k (Kept y) q w = absurd w
-  held_after_begun (Some g) x k (Kept y) q w = rw (w.1.2) (omega arith)
-  held_after_begun None x k LeftOut q w = rw (w.2) (omega arith)
-  held_after_begun (Some g) x k LeftOut q w = absurd w
-  held_after_begun None x k (Failure e) q w = rw (w.1) (omega arith)
-  held_after_begun (Some g) x k (Failure e) q w = rw (w.1) (omega arith)
-  held_after_begun g x k End q w = w
+module _ {K V : Type 0} (E : Type 0) where
+  group_at_weighs : (g : K × V) (k : K) (v : V) (same : Bool) → ItemWeighs {E = E} stop_comes 1 held_one (Some g) (group_at g k v same)
+  group_at_weighs g k v true = (omega arith, omega arith)
+  group_at_weighs g k v false = (omega arith, omega arith)
 
-  held_after_grown : (g : Group K A) (x : A) (o : Outcome (Group K A) E) (q : Option (Group K A)) → group_grown from g x o q → HeldAfter 1 (Some x) o (held_one q)
-  held_after_grown g x (Kept y) q w = absurd w
-  held_after_grown g x LeftOut q w = rw (w.2) (omega arith)
-  held_after_grown g x (Failure e) q w = rw (w.2.2) (omega arith)
-  held_after_grown g x End q w = w
+  failure_weighs : (held : Option (K × V)) (e : E) → ItemWeighs stop_comes 1 held_one held (before_stop held (Some e), None)
+  failure_weighs None e = (omega arith, omega arith)
+  failure_weighs (Some g) e = (omega arith, omega arith)
 
-  held_after_group_at : (g : Group K A) (x : A) (k : K) (b : Bool) (o : Outcome (Group K A) E) (q : Option (Group K A)) → group_at from g x k b o q → HeldAfter 1 (Some x) o (held_one q)
-  held_after_group_at g x k true o q w = held_after_grown g x o q w
-  held_after_group_at g x k false o q w = held_after_begun (Some g) x k o q w
+  refused_weighs : (held : Option (K × V)) (kept : Option V) (e : E) → ItemWeighs stop_comes 1 held_one held (before_stop (group_kept held kept) (Some e), None)
+  refused_weighs None kept e = (omega arith, omega arith)
+  refused_weighs (Some g) None e = (omega arith, omega arith)
+  refused_weighs (Some g) (Some v) e = (omega arith, omega arith)
 
-  held_after_of_chunk_by : (g : Option (Group K A)) (x : A) (v : Result K E) (o : Outcome (Group K A) E) (q : Option (Group K A)) → group_by from eq g x v o q → HeldAfter (held_one g) (Some x) o (held_one q)
-  held_after_of_chunk_by None x (Ok k) o q w = held_after_begun None x k o q w
-  held_after_of_chunk_by (Some g) x (Ok k) o q w = held_after_group_at g x k (eq g.0 k) o q w
-  held_after_of_chunk_by None x (Err e) o q (is, at) = rw (is, at) (omega arith)
-  held_after_of_chunk_by (Some g) x (Err e) o q (is, at) = rw (is, at) (omega arith)
+  group_by_weighs : (eq : K → K → Bool) (held : Option (K × V)) (v : KeyedPut K V E) → ItemWeighs stop_comes 1 held_one held (group_by eq held v)
+  group_by_weighs eq None (Ok (k, Ok v)) = (omega arith, omega arith)
+  group_by_weighs eq (Some g) (Ok (k, Ok v)) = group_at_weighs g k v (eq g.0 k)
+  group_by_weighs eq held (Ok (k, Err (kept, e))) = refused_weighs held kept e
+  group_by_weighs eq held (Err e) = failure_weighs held e
 
-  held_after_stop : (g : Option (Group K A)) (o : Outcome (Group K A) E) (q : Option (Group K A)) → group_at_stop g o q → HeldAfter {X = A} (held_one g) None o (held_one q)
-  held_after_stop None o q (is, at) = rw (is, at) (omega arith)
-  held_after_stop (Some g) o q (is, at) = rw (is, at) (omega arith)
+module _ {F A K E : Type 0} (from : AllocError → E → Type 0) (eq : K → K → Bool) (g : Mut F (Bor A × Unit {0}) (Result K E)) where
+  pub is_stage_chunk_by : IsStage stop_comes (plan_meets (puts_by_key from eq g) (chunk_by_plan eq) chunk_by_stops) 1 (λ p. held_one p.0)
+  is_stage_chunk_by = is_stage_plan stop_comes 1 held_one (puts_by_key from eq g) (chunk_by_plan eq) chunk_by_stops (λ held x v. group_by_weighs E eq held v) (λ held stop. before_stop_weighs held_one held None held stop refl refl)
 
-  module _ {F : Type 0} (g : Mut F (Bor A × Unit {0}) (Result K E)) where
-    pub holds_chunk_by : Holds (chunk_by_asks from eq g) group_held
-    holds_chunk_by p (Some x) o q w = held_after_of_chunk_by p.1 x w.0 o q.1 w.2
-    holds_chunk_by p None o q w = held_after_stop p.1 o q.1 w.1
-
-    abbrev AskedOf : (A → Type 0) → F × Option (Group K A) → Option A × Outcome (Group K A) E → F × Option (Group K A) → Type 0
-    AskedOf P p c q = OrStop P c.0 × chunk_by_asks from eq g p c.0 c.1 q
-
-    -- what the adapter was called on called the closure on items alone
-    closure_reaches_where_asked_of_items : (P : A → Type 0) (made : List (Option A × Outcome (Group K A) E)) (p q : F × Option (Group K A)) → FoldsTo (AskedOf P) p made q → Reaches (call_by_reference g) P p.0 q.0
-    closure_reaches_where_asked_of_items P [] p q w = subst (λ (f : F). Reaches (call_by_reference g) P p.0 f) (ap (λ (k : F × Option (Group K A)). k.0) w) reaches_reflexive
-    closure_reaches_where_asked_of_items P ((Some x, o) ∷ made) p q w = let k = w.1.1 in reaches_by_call_first x k.0 w.1.0 k.1 (closure_reaches_where_asked_of_items P made w.0 q w.2)
-    closure_reaches_where_asked_of_items P ((None, o) ∷ made) p q w = let k = w.1.1 in subst (λ (f : F). Reaches (call_by_reference g) P f q.0) k.0 (closure_reaches_where_asked_of_items P made w.0 q w.2)
-
-    key_takes_asked : (P : A → Type 0) (p q : F × Option (Group K A)) (asked : Option A) → IsCallable (call_by_reference g) (takes_by_reference g) P p.0 → Reaches (chunk_by_asks from eq g) (OrStop P) p q → OrStop P asked → key_takes g q asked
-    key_takes_asked P p q (Some x) c r may = c.at q.0 x (closure_reaches_where_asked_of_items P r.made p q r.by) may
-    key_takes_asked P p q None c r may = tt
-
-    -- if the closure may be called on what comes, the adapter may be
-    pub is_callable_asked : {S : Type 0} (m : Contract S A E) (s : S) (p : F × Option (Group K A)) → IsCallable (call_by_reference g) (takes_by_reference g) (m.may_give s) p.0 → IsCallable (chunk_by_asks from eq g) (key_takes g) (MayBeAsked m s) p
-    is_callable_asked m s p c = record { at = λ q asked r may. key_takes_asked (m.may_give s) p q asked c r may }
-
-    -- where the closure may be called on what comes, it may be after what an answer makes
-    keys_callable_after_asked : (P : A → Type 0) (p q : F × Option (Group K A)) (asked : Option A) (o : Outcome (Group K A) E) → OrStop P asked → chunk_by_asks from eq g p asked o q → IsCallable (call_by_reference g) (takes_by_reference g) P p.0 → IsCallable (call_by_reference g) (takes_by_reference g) P q.0
-    keys_callable_after_asked P p q (Some x) o given w c = is_callable_after (λ y k. k) (reaches_by_call_first x w.0 given w.1 reaches_reflexive) c
-    keys_callable_after_asked P p q None o given w c = subst (λ (f : F). IsCallable (call_by_reference g) (takes_by_reference g) P f) (sym w.0) c
-
-    abbrev KeysCallable : (Answered A E → Type 0) → F × Option (Group K A) → Type 0
-    KeysCallable Q p = IsCallable (call_by_reference g) (takes_by_reference g) (λ x. Q (Ok (Some x))) p.0
-
-    keys_stay : (Q R : Answered A E → Type 0) (p q : F × Option (Group K A)) → ((a : Answered A E) → R a → Q a) → Reaches (holding_meets (chunk_by_asks from eq g)) Q p q → KeysCallable Q p → KeysCallable R q
-    keys_stay Q R p q weak reached c = is_callable_after (λ x. weak (Ok (Some x))) reaches_reflexive (kept_where_reached (KeysCallable Q) (invariant_holds_after_met (chunk_by_asks from eq g) (KeysCallable Q) Q (keys_callable_after_asked (λ x. Q (Ok (Some x))))) reached c)
-
-    pub lawful_chunk_by : {S : Type 0} {m : Contract S A E} → Lawful m → Lawful (chunk_by_contract from eq g m)
-    lawful_chunk_by {m = m} l = lawful_holding_where (chunk_by_asks from eq g) (key_takes g) group_held (one_at_least m group_held) holds_chunk_by KeysCallable keys_stay l
+  pub lawful_chunk_by : {S : Type 0} {m : Contract S A E} → Lawful m → Lawful (chunk_by_contract from eq g m)
+  lawful_chunk_by l = lawful_closure (lawful_bounded l) stop_comes (puts_by_key from eq g) (chunk_by_plan eq) chunk_by_stops 1 held_one (held_hints held_one) is_stage_chunk_by (takes_key g)

@@ -3,29 +3,26 @@ use Rattle.std.specs.Prelude.{Option, Some, None, Ok, Err}
 use Rattle.std.specs.Fn.{Mut}
 use Rattle.std.proofs.Common.{arith}
 use Rattle.fallible_iterator.specs.Contract.{Contract, Lawful}
-use Rattle.fallible_iterator.specs.Folds.{call_with, takes_with}
-use Rattle.fallible_itertools_adapters.specs.BeforeStop.{held_one}
-use Rattle.fallible_itertools_adapters.specs.Holding.{Holds, HeldAfter, held_beside, one_at_least}
-use Rattle.fallible_itertools_adapters.specs.Coalesce.{OneOrBoth, coalesced_by, coalesce_asks, coalesce_takes, coalesce_contract}
-use Rattle.fallible_itertools_adapters.specs.Laws.Holding.{lawful_holding}
-use Rattle.fallible_iterator.specs.Outcome.{Outcome}
+use Rattle.fallible_itertools_adapters.specs.BeforeStop.{held_hints, held_one}
+use Rattle.fallible_itertools_adapters.specs.Coalesce.{OneOrBoth, coalesce_call, coalesce_contract, coalesce_plan, coalesce_takes, coalesced_by}
+use Rattle.fallible_itertools_adapters.specs.Dedup.{dedup_stops}
+use Rattle.fallible_itertools_adapters.specs.Laws.Dedup.{dedup_stops_weighs}
+use Rattle.fallible_itertools_adapters.specs.Laws.Plan.{Always, ItemWeighs, is_stage_plan, lawful_bounded, lawful_closure}
+use Rattle.fallible_itertools_adapters.specs.Plan.{plan_meets}
+use Rattle.fallible_itertools_adapters.specs.Staging.{IsStage, stop_comes}
 
-module _ {A F E : Type 0} (call : F → A → A → OneOrBoth A E → F → Type 0) where
-  held_after_of_coalesce : (x : A) (v : OneOrBoth A E) (o : Outcome A E) (q : Option A) → coalesced_by v o q → HeldAfter 1 (Some x) o (held_one q)
-  held_after_of_coalesce x (Ok (Ok z)) o q (is, at) = rw (is, at) (omega arith)
-  held_after_of_coalesce x (Ok (Err both)) o q (is, at) = rw (is, at) (omega arith)
-  held_after_of_coalesce x (Err e) o q (is, at) = rw (is, at) (omega arith)
+module _ {A : Type 0} (E : Type 0) where
+  coalesced_weighs : (y : A) (v : OneOrBoth A E) → ItemWeighs stop_comes 1 held_one (Some y) (coalesced_by v)
+  coalesced_weighs y (Ok (Ok z)) = (omega arith, omega arith)
+  coalesced_weighs y (Ok (Err both)) = (omega arith, omega arith)
+  coalesced_weighs y (Err e) = (omega arith, omega arith)
 
-  pub holds_coalesce : Holds {E = E} (coalesce_asks call) held_beside
-  holds_coalesce (None, f) (Some x) o q (is, at) = rw (is, at) (omega arith)
-  holds_coalesce (Some y, f) (Some x) o q w = held_after_of_coalesce x w.0 o q.0 w.2
-  holds_coalesce (None, f) None o q (is, at) = rw (is, at) (omega arith)
-  holds_coalesce (Some y, f) None o q (is, at) = rw (is, at) (omega arith)
+  pub coalesce_plan_weighs : (held : Option A) (x : A) → Always (λ t. ItemWeighs {E = E} stop_comes 1 held_one held t) (coalesce_plan held x)
+  coalesce_plan_weighs None x = (omega arith, omega arith)
+  coalesce_plan_weighs (Some y) x = λ v. coalesced_weighs y v
 
-pub lawful_coalesce : {S A F E : Type 0} {m : Contract S A E} (g : Mut F (A × (A × Unit {0})) (OneOrBoth A E)) → Lawful m → Lawful (coalesce_contract m g)
-lawful_coalesce {m = m} g l = lawful_holding (coalesce_asks (call_with g)) (coalesce_takes (takes_with g)) held_beside (one_at_least m held_beside) (holds_coalesce (call_with g)) l
+pub is_stage_coalesce : {F A E : Type 0} (call : F → A × A → OneOrBoth A E → F → Type 0) → IsStage stop_comes (plan_meets call coalesce_plan dedup_stops) 1 (λ p. held_one p.0)
+is_stage_coalesce {E = E} call = is_stage_plan stop_comes 1 held_one call coalesce_plan dedup_stops (coalesce_plan_weighs E) (dedup_stops_weighs E)
 
--- at a stop nothing is required
-pub coalesce_takes_stop : {A F : Type 0} (takes : F → A → A → Type 0) (p : Option A × F) → coalesce_takes takes p None
-coalesce_takes_stop takes (None, f) = tt
-coalesce_takes_stop takes (Some y, f) = tt
+pub lawful_coalesce : {S A F E : Type 0} {m : Contract S A E} (g : Mut F (A × (A × Unit {0})) (OneOrBoth A E)) → Lawful m → Lawful (coalesce_contract g m)
+lawful_coalesce g l = lawful_closure (lawful_bounded l) stop_comes (coalesce_call g) coalesce_plan dedup_stops 1 held_one (held_hints held_one) (is_stage_coalesce (coalesce_call g)) (coalesce_takes g)

@@ -16,7 +16,7 @@ module _ {A : Type 0} (E : Type 0) where
   pub dedup_stops_weighs : (held : Option A) (stop : Option E) → StopWeighs stop_comes 1 held_one held stop (dedup_stops held stop)
   dedup_stops_weighs held stop = before_stop_weighs held_one held None held stop refl refl
 
-  dedup_plan_weighs : (eq : A → A → Bool) (held : Option A) (x : A) → Always (λ t. ItemWeighs {E = E} stop_comes 1 held_one held t) (dedup_plan eq held x)
+  pub dedup_plan_weighs : (eq : A → A → Bool) (held : Option A) (x : A) → Always (λ t. ItemWeighs {E = E} stop_comes 1 held_one held t) (dedup_plan eq held x)
   dedup_plan_weighs eq None x = (omega arith, omega arith)
   dedup_plan_weighs eq (Some y) x = unless_same_weighs y x (eq y x)
 

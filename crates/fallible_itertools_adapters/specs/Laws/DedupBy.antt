@@ -1,32 +1,28 @@
 -- The contract of `DedupBy` is lawful where the source's is.
-use Rattle.std.specs.Prelude.{Bool, true, false, Option, Some, None, Result, Ok, Err}
+use Rattle.std.specs.Prelude.{Bool, Option, Some, None, Result, Ok, Err}
 use Rattle.std.specs.Fn.{Mut}
 use Rattle.std.specs.Borrow.{Bor}
 use Rattle.std.proofs.Common.{arith}
 use Rattle.fallible_iterator.specs.Contract.{Contract, Lawful}
-use Rattle.fallible_iterator.specs.Picking.{call_at_two, takes_at_two}
-use Rattle.fallible_itertools_adapters.specs.BeforeStop.{held_one}
-use Rattle.fallible_itertools_adapters.specs.Holding.{Holds, HeldAfter, held_beside, one_at_least}
-use Rattle.fallible_itertools_adapters.specs.DedupBy.{found_same, dedup_by_asks, dedup_by_takes, dedup_by_contract}
-use Rattle.fallible_itertools_adapters.specs.Laws.Holding.{lawful_holding}
-use Rattle.fallible_iterator.specs.Outcome.{Outcome}
+use Rattle.fallible_itertools_adapters.specs.BeforeStop.{held_hints, held_one}
+use Rattle.fallible_itertools_adapters.specs.Dedup.{dedup_stops}
+use Rattle.fallible_itertools_adapters.specs.DedupBy.{dedup_by_contract, dedup_by_plan, same_by, same_call, same_takes}
+use Rattle.fallible_itertools_adapters.specs.Laws.Dedup.{dedup_stops_weighs, unless_same_weighs}
+use Rattle.fallible_itertools_adapters.specs.Laws.Plan.{Always, ItemWeighs, is_stage_plan, lawful_bounded, lawful_closure}
+use Rattle.fallible_itertools_adapters.specs.Plan.{plan_meets}
+use Rattle.fallible_itertools_adapters.specs.Staging.{IsStage, stop_comes}
 
-module _ {A F E : Type 0} (call : F → A → A → Result Bool E → F → Type 0) where
-  held_after_of_found_same : (y x : A) (v : Result Bool E) (o : Outcome A E) (q : Option A) → found_same y x v o q → HeldAfter 1 (Some x) o (held_one q)
-  held_after_of_found_same y x (Ok true) o q (is, at) = rw (is, at) (omega arith)
-  held_after_of_found_same y x (Ok false) o q (is, at) = rw (is, at) (omega arith)
-  held_after_of_found_same y x (Err e) o q (is, at) = rw (is, at) (omega arith)
+module _ {A : Type 0} (E : Type 0) where
+  same_by_weighs : (y x : A) (v : Result Bool E) → ItemWeighs stop_comes 1 held_one (Some y) (same_by y x v)
+  same_by_weighs y x (Ok same) = unless_same_weighs E y x same
+  same_by_weighs y x (Err e) = (omega arith, omega arith)
 
-  pub holds_dedup_by : Holds {E = E} (dedup_by_asks call) held_beside
-  holds_dedup_by (None, f) (Some x) o q (is, at) = rw (is, at) (omega arith)
-  holds_dedup_by (Some y, f) (Some x) o q w = held_after_of_found_same y x w.0 o q.0 w.2
-  holds_dedup_by (None, f) None o q (is, at) = rw (is, at) (omega arith)
-  holds_dedup_by (Some y, f) None o q (is, at) = rw (is, at) (omega arith)
+  pub dedup_by_plan_weighs : (held : Option A) (x : A) → Always (λ t. ItemWeighs {E = E} stop_comes 1 held_one held t) (dedup_by_plan held x)
+  dedup_by_plan_weighs None x = (omega arith, omega arith)
+  dedup_by_plan_weighs (Some y) x = λ v. same_by_weighs y x v
 
-pub lawful_dedup_by : {S A F E : Type 0} {m : Contract S A E} (g : Mut F (Bor A × (Bor A × Unit {0})) (Result Bool E)) → Lawful m → Lawful (dedup_by_contract m g)
-lawful_dedup_by {m = m} g l = lawful_holding (dedup_by_asks (call_at_two g)) (dedup_by_takes (takes_at_two g)) held_beside (one_at_least m held_beside) (holds_dedup_by (call_at_two g)) l
+pub is_stage_dedup_by : {F A E : Type 0} (call : F → A × A → Result Bool E → F → Type 0) → IsStage stop_comes (plan_meets call dedup_by_plan dedup_stops) 1 (λ p. held_one p.0)
+is_stage_dedup_by {E = E} call = is_stage_plan stop_comes 1 held_one call dedup_by_plan dedup_stops (dedup_by_plan_weighs E) (dedup_stops_weighs E)
 
--- at a stop nothing is required
-pub dedup_by_takes_stop : {A F : Type 0} (takes : F → A → A → Type 0) (p : Option A × F) → dedup_by_takes takes p None
-dedup_by_takes_stop takes (None, f) = tt
-dedup_by_takes_stop takes (Some y, f) = tt
+pub lawful_dedup_by : {S A F E : Type 0} {m : Contract S A E} (g : Mut F (Bor A × (Bor A × Unit {0})) (Result Bool E)) → Lawful m → Lawful (dedup_by_contract g m)
+lawful_dedup_by g l = lawful_closure (lawful_bounded l) stop_comes (same_call g) dedup_by_plan dedup_stops 1 held_one (held_hints held_one) (is_stage_dedup_by (same_call g)) (same_takes g)

@@ -1,31 +1,41 @@
 -- The contract of `DedupByKey` is lawful where the source's is.
-use Rattle.std.specs.Prelude.{Bool, true, false, Option, Some, None, Result, Ok, Err}
+use Rattle.std.specs.Prelude.{◌≡◌, Bool, true, false, Option, Some, None, Result, Ok, Err}
 use Rattle.std.specs.Fn.{Mut}
 use Rattle.std.specs.Borrow.{Bor}
-use Rattle.std.proofs.Common.{arith}
-use Rattle.fallible_iterator.specs.Contract.{Contract, Lawful}
+use Rattle.std.proofs.Common.{arith, refl}
 use Rattle.fallible_iterator.specs.Closures.{call_by_reference, takes_by_reference}
-use Rattle.fallible_itertools_adapters.specs.BeforeStop.{held_one}
-use Rattle.fallible_itertools_adapters.specs.Holding.{Holds, HeldAfter, held_beside, one_at_least}
-use Rattle.fallible_itertools_adapters.specs.DedupByKey.{keyed_at, keyed_by, dedup_key_asks, dedup_key_takes, dedup_by_key_contract}
-use Rattle.fallible_itertools_adapters.specs.Laws.Holding.{lawful_holding}
-use Rattle.fallible_iterator.specs.Outcome.{Outcome}
+use Rattle.fallible_iterator.specs.Contract.{Contract, Lawful}
+use Rattle.fallible_itertools_adapters.specs.BeforeStop.{held_hints, held_one}
+use Rattle.fallible_itertools_adapters.specs.DedupByKey.{dedup_by_key_contract, dedup_key_plan, dedup_key_stops, keyed_by, keyed_item, unless_same_key}
+use Rattle.fallible_itertools_adapters.specs.Laws.Plan.{Always, ItemWeighs, StopWeighs, before_stop_weighs, is_stage_plan, lawful_bounded, lawful_closure}
+use Rattle.fallible_itertools_adapters.specs.Plan.{plan_meets}
+use Rattle.fallible_itertools_adapters.specs.Staging.{IsStage, stop_comes}
 
-module _ {A K E : Type 0} (eq : K → K → Bool) where
-  held_after_keyed_at : (held this : K × A) (x : A) (b : Bool) (o : Outcome A E) (q : Option (K × A)) → keyed_at eq held this b o q → HeldAfter 1 (Some x) o (held_one q)
-  held_after_keyed_at held this x true o q (is, at) = rw (is, at) (omega arith)
-  held_after_keyed_at held this x false o q (is, at) = rw (is, at) (omega arith)
+-- as many are held with their key
+pub held_one_of_keyed : {A K : Type 0} (held : Option (K × A)) → held_one held ≡ held_one (keyed_item held)
+held_one_of_keyed None = refl
+held_one_of_keyed (Some p) = refl
 
-  held_after_of_dedup_by_key : (held : Option (K × A)) (x : A) (v : Result K E) (o : Outcome A E) (q : Option (K × A)) → keyed_by eq held x v o q → HeldAfter (held_one held) (Some x) o (held_one q)
-  held_after_of_dedup_by_key None x (Err e) o q (is, at) = rw (is, at) (omega arith)
-  held_after_of_dedup_by_key (Some held) x (Err e) o q (is, at) = rw (is, at) (omega arith)
-  held_after_of_dedup_by_key None x (Ok k) o q (is, at) = rw (is, at) (omega arith)
-  held_after_of_dedup_by_key (Some held) x (Ok k) o q w = held_after_keyed_at held (k, x) x (eq held.0 k) o q w
+module _ {A K : Type 0} (E : Type 0) where
+  dedup_key_stops_weighs : (held : Option (K × A)) (stop : Option E) → StopWeighs stop_comes 1 held_one held stop (dedup_key_stops held stop)
+  dedup_key_stops_weighs held stop = before_stop_weighs held_one held None (keyed_item held) stop (held_one_of_keyed held) refl
 
-  pub holds_dedup_key : {F : Type 0} (call : F → A → Result K E → F → Type 0) → Holds {E = E} (dedup_key_asks eq call) held_beside
-  holds_dedup_key call (held, f) (Some x) o q w = held_after_of_dedup_by_key held x w.0 o q.0 w.2
-  holds_dedup_key call (None, f) None o q (is, at) = rw (is, at) (omega arith)
-  holds_dedup_key call (Some held, f) None o q (is, at) = rw (is, at) (omega arith)
+  module _ (eq : K → K → Bool) where
+    unless_same_key_weighs : (held next : K × A) (b : Bool) → ItemWeighs {E = E} stop_comes 1 held_one (Some held) (unless_same_key eq held next b)
+    unless_same_key_weighs held next true = (omega arith, omega arith)
+    unless_same_key_weighs held next false = (omega arith, omega arith)
 
-pub lawful_dedup_by_key : {S A K F E : Type 0} {m : Contract S A E} (eq : K → K → Bool) (g : Mut F (Bor A × Unit {0}) (Result K E)) → Lawful m → Lawful (dedup_by_key_contract eq m g)
-lawful_dedup_by_key {m = m} eq g l = lawful_holding (dedup_key_asks eq (call_by_reference g)) (dedup_key_takes (takes_by_reference g)) held_beside (one_at_least m held_beside) (holds_dedup_key eq (call_by_reference g)) l
+    keyed_weighs : (held : Option (K × A)) (x : A) (v : Result K E) → ItemWeighs stop_comes 1 held_one held (keyed_by eq held x v)
+    keyed_weighs None x (Err e) = (omega arith, omega arith)
+    keyed_weighs (Some p) x (Err e) = (omega arith, omega arith)
+    keyed_weighs None x (Ok k) = (omega arith, omega arith)
+    keyed_weighs (Some p) x (Ok k) = unless_same_key_weighs p (k, x) (eq p.0 k)
+
+    pub dedup_key_plan_weighs : (held : Option (K × A)) (x : A) → Always (λ t. ItemWeighs {E = E} stop_comes 1 held_one held t) (dedup_key_plan eq held x)
+    dedup_key_plan_weighs held x = λ v. keyed_weighs held x v
+
+pub is_stage_dedup_key : {F A K E : Type 0} (eq : K → K → Bool) (call : F → A → Result K E → F → Type 0) → IsStage stop_comes (plan_meets call (dedup_key_plan eq) dedup_key_stops) 1 (λ p. held_one p.0)
+is_stage_dedup_key {E = E} eq call = is_stage_plan stop_comes 1 held_one call (dedup_key_plan eq) dedup_key_stops (dedup_key_plan_weighs E eq) (dedup_key_stops_weighs E)
+
+pub lawful_dedup_by_key : {S A K F E : Type 0} {m : Contract S A E} (eq : K → K → Bool) (g : Mut F (Bor A × Unit {0}) (Result K E)) → Lawful m → Lawful (dedup_by_key_contract eq g m)
+lawful_dedup_by_key eq g l = lawful_closure (lawful_bounded l) stop_comes (call_by_reference g) (dedup_key_plan eq) dedup_key_stops 1 held_one (held_hints held_one) (is_stage_dedup_key eq (call_by_reference g)) (takes_by_reference g)

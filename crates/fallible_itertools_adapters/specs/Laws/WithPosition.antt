@@ -1,17 +1,24 @@
 -- The contract of `WithPosition` is lawful where the source's is.
-use Rattle.std.specs.Prelude.{Some, None, ⊤}
-use Rattle.std.proofs.Common.{arith}
+use Rattle.std.specs.Prelude.{Bool, Option, Some, None}
+use Rattle.std.proofs.Common.{refl, arith}
 use Rattle.fallible_iterator.specs.Contract.{Contract, Lawful}
 use Rattle.fallible_itertools_adapters.specs.BeforeStop.{held_one}
-use Rattle.fallible_itertools_adapters.specs.Holding.{Holds}
-use Rattle.fallible_itertools_adapters.specs.WithPosition.{position_asks, with_position_contract, with_position_hints}
-use Rattle.fallible_itertools_adapters.specs.Laws.Holding.{lawful_filling}
+use Rattle.fallible_itertools_adapters.specs.Laws.Plan.{Always, ItemWeighs, StopWeighs, before_stop_weighs, is_stage_plan, lawful_plan}
+use Rattle.fallible_itertools_adapters.specs.Plan.{calls_nothing, plan_meets}
+use Rattle.fallible_itertools_adapters.specs.Staging.{IsStage, stop_comes}
+use Rattle.fallible_itertools_adapters.specs.WithPosition.{position_hint, position_plan, position_stops, positioned_last, with_position_contract}
 
-pub position_asks_holds_held_one : {A E : Type 0} → Holds {E = E} (position_asks {A = A}) held_one
-position_asks_holds_held_one None (Some x) o q (is, at) = rw (is, at) (omega arith)
-position_asks_holds_held_one (Some p) (Some x) o q (is, at) = rw (is, at) (omega arith)
-position_asks_holds_held_one None None o q (is, at) = rw (is, at) (omega arith)
-position_asks_holds_held_one (Some p) None o q (is, at) = rw (is, at) (omega arith)
+module _ {A : Type 0} (E : Type 0) where
+  pub position_weighs : (held : Option (Bool × A)) (x : A) → Always (λ t. ItemWeighs {E = E} stop_comes 1 held_one held t) (position_plan held x)
+  position_weighs None x = (omega arith, omega arith)
+  position_weighs (Some p) x = (omega arith, omega arith)
+
+  position_stop_weighs : (held : Option (Bool × A)) (stop : Option E) → StopWeighs stop_comes 1 held_one held stop (position_stops held stop)
+  position_stop_weighs None stop = before_stop_weighs (held_one {A = Bool × A}) None None (positioned_last {A = A} None) stop refl refl
+  position_stop_weighs (Some p) stop = before_stop_weighs (held_one {A = Bool × A}) (Some p) None (positioned_last (Some p)) stop refl refl
+
+pub is_stage_position : {A E : Type 0} → IsStage {E = E} stop_comes (plan_meets (calls_nothing {F = Unit {0}}) (position_plan {A = A}) position_stops) 1 (λ p. held_one p.0)
+is_stage_position {E = E} = is_stage_plan stop_comes 1 held_one calls_nothing position_plan position_stops (position_weighs E) (position_stop_weighs E)
 
 pub lawful_with_position : {S A E : Type 0} {m : Contract S A E} → Lawful m → Lawful (with_position_contract m)
-lawful_with_position {m = m} l = lawful_filling position_asks (λ p x. ⊤) held_one (with_position_hints m) position_asks_holds_held_one l
+lawful_with_position l = lawful_plan l stop_comes calls_nothing position_plan position_stops 1 held_one position_hint is_stage_position

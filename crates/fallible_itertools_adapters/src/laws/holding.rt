@@ -1,5 +1,5 @@
 // The laws of the adapters that buffer.
-ghost use Rattle.std.specs.Prelude.{◌≡◌, ◌++◌, ◌∷◌, Bool, false, List, Result, Ok, Err, [], map};
+ghost use Rattle.std.specs.Prelude.{◌≡◌, ◌++◌, ◌∷◌, Bool, true, false, List, Result, Ok, Err, [], map};
 ghost use Rattle.fallible_iterator.specs.SoundHints.{HintsAsSoundAs};
 ghost use Rattle.fallible_iterator.specs.Lists.{filter_mapped, items, nth_of};
 ghost use Rattle.fallible_itertools_adapters.specs.Adjacent.{AdjacentItems, HaveKeys};
@@ -24,8 +24,18 @@ use crate::with_position::WithPosition;
 use fallible_iterator::FallibleIterator;
 use std::alloc::AllocError;
 
-/// No item equals the next one, unless a failure stands between. Each item is its own key, as `deduped_by_key` has it. A failure parts a list: what stands before it is deduped by itself, and so is what comes after it.
+/// Of two equal items that stand next to each other the first one is kept. A failure stands in its place. So no item equals the next one, unless a failure stands between. Each item is its own key, as `deduped_by_key` has it. A failure parts a list: what stands before it is deduped by itself, and so is what comes after it.
 pub fn law_deduped<T: PartialEq, E>()
+    ensures none { deduped T.eq {E = E} [] ≡ [] }
+    ensures one { (y : T) → deduped T.eq {E = E} (Ok y ∷ []) ≡ Ok y ∷ [] }
+    ensures equal { (y x : T) (l : List (Result T E)) → T.eq y x ≡ true
+        → deduped T.eq (Ok y ∷ Ok x ∷ l) ≡ deduped T.eq (Ok y ∷ l) }
+    ensures others { (y x : T) (l : List (Result T E)) → T.eq y x ≡ false
+        → deduped T.eq (Ok y ∷ Ok x ∷ l) ≡ Ok y ∷ deduped T.eq (Ok x ∷ l) }
+    ensures failure { (e : E) (l : List (Result T E))
+        → deduped T.eq (Err e ∷ l) ≡ Err e ∷ deduped T.eq l }
+    ensures before_failure { (y : T) (e : E) (l : List (Result T E))
+        → deduped T.eq (Ok y ∷ Err e ∷ l) ≡ Ok y ∷ Err e ∷ deduped T.eq l }
     ensures parts { (a : List (Result T E)) (e : E) (b : List (Result T E))
         → deduped T.eq (a ++ Err e ∷ b) ≡ deduped T.eq a ++ Err e ∷ deduped T.eq b }
     ensures adjacent { (l : List (Result T E))
@@ -42,8 +52,20 @@ where
     ensures { HintsWhereHeld ⟦<Dedup<I> as FallibleIterator>⟧.contract dedup_due I.contract dedup_source }
 {}
 
-/// A failure parts a list: what stands before it is merged by itself, and so is what comes after it. The closure keeps each two adjacent results apart, if it hands what it keeps apart back as it is, and what it makes of the second of two and a later item is still apart from the first; unless a failure stands between.
+/// Two items that the closure merges are the one that it makes of them. Of two that it keeps apart the first one is kept, and the second one goes on. If the closure fails on two, both are lost, and its failure comes. A failure parts a list: what stands before it is merged by itself, and so is what comes after it. The closure keeps each two adjacent results apart, if it hands what it keeps apart back as it is, and what it makes of the second of two and a later item is still apart from the first; unless a failure stands between.
 pub fn law_coalesced<T, E>()
+    ensures none { (h : T → T → OneOrBoth T E) → coalesced h [] ≡ [] }
+    ensures one { (h : T → T → OneOrBoth T E) (y : T) → coalesced h (Ok y ∷ []) ≡ Ok y ∷ [] }
+    ensures merged { (h : T → T → OneOrBoth T E) (y x z : T) (l : List (Result T E))
+        → h y x ≡ Ok (Ok z) → coalesced h (Ok y ∷ Ok x ∷ l) ≡ coalesced h (Ok z ∷ l) }
+    ensures both { (h : T → T → OneOrBoth T E) (y x a b : T) (l : List (Result T E))
+        → h y x ≡ Ok (Err (a, b)) → coalesced h (Ok y ∷ Ok x ∷ l) ≡ Ok a ∷ coalesced h (Ok b ∷ l) }
+    ensures failed { (h : T → T → OneOrBoth T E) (y x : T) (e : E) (l : List (Result T E))
+        → h y x ≡ Err e → coalesced h (Ok y ∷ Ok x ∷ l) ≡ Err e ∷ coalesced h l }
+    ensures failure { (h : T → T → OneOrBoth T E) (e : E) (l : List (Result T E))
+        → coalesced h (Err e ∷ l) ≡ Err e ∷ coalesced h l }
+    ensures before_failure { (h : T → T → OneOrBoth T E) (y : T) (e : E) (l : List (Result T E))
+        → coalesced h (Ok y ∷ Err e ∷ l) ≡ Ok y ∷ Err e ∷ coalesced h l }
     ensures parts { (h : T → T → OneOrBoth T E) (a : List (Result T E)) (e : E) (b : List (Result T E))
         → coalesced h (a ++ Err e ∷ b) ≡ coalesced h a ++ Err e ∷ coalesced h b }
     ensures adjacent { (h : T → T → OneOrBoth T E) (l : List (Result T E)) → KeepsApart h
@@ -61,8 +83,20 @@ where
     ensures { HintsWhereHeld ⟦<Coalesce<I, F> as FallibleIterator>⟧.contract coalesce_due I.contract coalesce_source }
 {}
 
-/// A failure parts a list: what stands before it is deduped by itself, and so is what comes after it. The closure finds that each item differs from the next one, unless a failure stands between.
+/// Of two items that the closure finds the same the first one is kept. If the closure fails on two, the first one is kept, and its failure stands in the place of the second one. A failure parts a list: what stands before it is deduped by itself, and so is what comes after it. The closure finds that each item differs from the next one, unless a failure stands between.
 pub fn law_deduped_by<T, E>()
+    ensures none { (h : T → T → Result Bool E) → deduped_by h [] ≡ [] }
+    ensures one { (h : T → T → Result Bool E) (y : T) → deduped_by h (Ok y ∷ []) ≡ Ok y ∷ [] }
+    ensures same { (h : T → T → Result Bool E) (y x : T) (l : List (Result T E))
+        → h y x ≡ Ok true → deduped_by h (Ok y ∷ Ok x ∷ l) ≡ deduped_by h (Ok y ∷ l) }
+    ensures others { (h : T → T → Result Bool E) (y x : T) (l : List (Result T E))
+        → h y x ≡ Ok false → deduped_by h (Ok y ∷ Ok x ∷ l) ≡ Ok y ∷ deduped_by h (Ok x ∷ l) }
+    ensures failed { (h : T → T → Result Bool E) (y x : T) (e : E) (l : List (Result T E))
+        → h y x ≡ Err e → deduped_by h (Ok y ∷ Ok x ∷ l) ≡ Ok y ∷ Err e ∷ deduped_by h l }
+    ensures failure { (h : T → T → Result Bool E) (e : E) (l : List (Result T E))
+        → deduped_by h (Err e ∷ l) ≡ Err e ∷ deduped_by h l }
+    ensures before_failure { (h : T → T → Result Bool E) (y : T) (e : E) (l : List (Result T E))
+        → deduped_by h (Ok y ∷ Err e ∷ l) ≡ Ok y ∷ Err e ∷ deduped_by h l }
     ensures parts { (h : T → T → Result Bool E) (a : List (Result T E)) (e : E) (b : List (Result T E))
         → deduped_by h (a ++ Err e ∷ b) ≡ deduped_by h a ++ Err e ∷ deduped_by h b }
     ensures adjacent { (h : T → T → Result Bool E) (l : List (Result T E))
@@ -80,8 +114,24 @@ where
     ensures { HintsWhereHeld ⟦<DedupBy<I, F> as FallibleIterator>⟧.contract dedup_by_due I.contract dedup_by_source }
 {}
 
-/// The key of no item equals that of the next one, unless a failure stands between. The items are the first ones of the groups that `chunked_by` makes. A failure parts a list: what stands before it is deduped by itself, and so is what comes after it.
+/// Of two items that stand next to each other and have equal keys the first one is kept. Where the closure fails, its failure stands in the place of the item. So the key of no item equals that of the next one, unless a failure stands between. The items are the first ones of the groups that `chunked_by` makes. A failure parts a list: what stands before it is deduped by itself, and so is what comes after it.
 pub fn law_deduped_by_key<T, K: PartialEq, E>()
+    ensures none { (h : T → Result K E) → deduped_by_key K.eq h [] ≡ [] }
+    ensures one { (h : T → Result K E) (y : T) (k : K) → h y ≡ Ok k
+        → deduped_by_key K.eq h (Ok y ∷ []) ≡ Ok y ∷ [] }
+    ensures equal { (h : T → Result K E) (y x : T) (k j : K) (l : List (Result T E))
+        → h y ≡ Ok k → h x ≡ Ok j → K.eq k j ≡ true
+        → deduped_by_key K.eq h (Ok y ∷ Ok x ∷ l) ≡ deduped_by_key K.eq h (Ok y ∷ l) }
+    ensures others { (h : T → Result K E) (y x : T) (k j : K) (l : List (Result T E))
+        → h y ≡ Ok k → h x ≡ Ok j → K.eq k j ≡ false
+        → deduped_by_key K.eq h (Ok y ∷ Ok x ∷ l) ≡ Ok y ∷ deduped_by_key K.eq h (Ok x ∷ l) }
+    ensures failed { (h : T → Result K E) (x : T) (e : E) (l : List (Result T E)) → h x ≡ Err e
+        → deduped_by_key K.eq h (Ok x ∷ l) ≡ Err e ∷ deduped_by_key K.eq h l }
+    ensures next_failed { (h : T → Result K E) (y x : T) (k : K) (e : E) (l : List (Result T E))
+        → h y ≡ Ok k → h x ≡ Err e
+        → deduped_by_key K.eq h (Ok y ∷ Ok x ∷ l) ≡ Ok y ∷ Err e ∷ deduped_by_key K.eq h l }
+    ensures failure { (h : T → Result K E) (e : E) (l : List (Result T E))
+        → deduped_by_key K.eq h (Err e ∷ l) ≡ Err e ∷ deduped_by_key K.eq h l }
     ensures parts { (h : T → Result K E) (a : List (Result T E)) (e : E) (b : List (Result T E))
         → deduped_by_key K.eq h (a ++ Err e ∷ b)
         ≡ deduped_by_key K.eq h a ++ Err e ∷ deduped_by_key K.eq h b }

@@ -1,16 +1,15 @@
--- No stop is due, and an answer from here is one from the beginning. The batch has one item more at each turn.
-use Rattle.std.specs.Prelude.{◌≡◌, ◌-◌, length, None}
-use Rattle.fallible_itertools_adapters.specs.Chunks.{chunks_asks}
-use Rattle.fallible_itertools_adapters.specs.Batch.{held_items}
-use Rattle.fallible_itertools_adapters.specs.Holding.{holding_step}
+-- An answer from here is one from the beginning. The batch has one item more at each turn.
+use Rattle.fallible_itertools_adapters.specs.Chunks.{chunks_plan, chunks_stops, puts, vec_count}
+use Rattle.fallible_itertools_adapters.specs.Plan.{plan_meets}
+use Rattle.fallible_itertools_adapters.specs.Staging.{DrawsUpTo, stop_comes}
+use Rattle.fallible_itertools_adapters.proofs.Lemmas.Chunks.{room_of}
 use Rattle.fallible_itertools_adapters.proofs.chunks.filled.Given as goal
 
-abbrev pub invariant-loop-x : goal.invariant-loop-x
-invariant-loop-x g l = let m = g.I.FallibleIterator.contract in let asks = chunks_asks g.I.Error.From.from_gives in record {
-  undue : l.due ≡ None;
+abbrev pub invariant-loop-made : goal.invariant-loop-made
+invariant-loop-made g l = let m = g.I.FallibleIterator.contract in let meets = plan_meets (puts g.I.Error.From.from_gives) (chunks_plan vec_count) chunks_stops in record {
   can_next : m.can_next l.it;
-  whole : (r : _) (q : _) → holding_step asks m.steps (l.it, (l.batch, None)) r q → holding_step asks m.steps (l.fn.it, (l.fn.batch, None)) r q;
+  whole : (r : _) (t : _) (q : _) → DrawsUpTo stop_comes meets m.steps l.it l.held r t q → DrawsUpTo stop_comes meets m.steps l.fn.it l.fn.held r t q;
 }
 
-abbrev pub decreases-loop-x : goal.decreases-loop-x
-decreases-loop-x g l = l.batch.0 - length (held_items l.batch.1)
+abbrev pub decreases-loop-made : goal.decreases-loop-made
+decreases-loop-made g l = room_of g.I.Error.From.from_gives l.held

@@ -1,8 +1,17 @@
 -- By the list, with the group that is held before it.
 use Rattle.fallible_itertools_adapters.proofs.Lemmas.ChunkBy.{chunked_by_in_parts}
-use Rattle.fallible_itertools_adapters.proofs.Lemmas.ChunkedBy.{items_of_groups_of_chunked_by_are_items}
+use Rattle.fallible_itertools_adapters.proofs.Lemmas.ChunkedBy.{chunked_by_of_first, chunked_by_of_last, chunked_by_of_none, items_of_groups_of_chunked_by_are_items}
 use Rattle.fallible_itertools_adapters.proofs.Lemmas.Groups.{items_of_chunked_by_are_groups, chunked_by_of_failed_key_is_of_failure, adjacent_groups_differ}
 use Rattle.fallible_itertools_adapters.proofs.laws.grouping.law_chunked_by.Goals as goal
+
+pub returns-clause-none : goal.returns-clause-none
+returns-clause-none g c h = chunked_by_of_none g.K.PartialEq.eq h
+
+pub returns-clause-first : goal.returns-clause-first
+returns-clause-first g c h group y k l is has differ = chunked_by_of_first g.K.PartialEq.eq h group y k l is has differ
+
+pub returns-clause-last : goal.returns-clause-last
+returns-clause-last g c h group is = chunked_by_of_last g.K.PartialEq.eq h group is
 
 pub returns-clause-items : goal.returns-clause-items
 returns-clause-items g c key l = items_of_groups_of_chunked_by_are_items _ g.K.PartialEq.eq key l
