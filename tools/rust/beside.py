@@ -109,7 +109,7 @@ def piece(name):
 ADAPTERS, CONSUMERS, INLINE = "fallible_itertools_adapters", "fallible_itertools_consumers", "#[inline(always)]\n    "
 RULES = [
     # Folds that are inlined whole, so that one of an adapter that buffers is a single loop.
-    (ADAPTERS + r"/(?:holding|staging)\.rs", r"^(?:pub )?fn (?:drive_holding|drive_stage|at_stop)\b", r"#[inline(always)]\n\g<0>", 4),
+    (ADAPTERS + r"/staging\.rs", r"^(?:pub )?fn (?:drive_stage|at_stop)\b", r"#[inline(always)]\n\g<0>", 2),
     # The body of `peeking_take_while` goes by `peek`.
     (ADAPTERS + r"/peeking_take_while\.rs", r"^// What the closure returns on the buffered item(?:.*\n)*?\}\n\n", "", 1),
     (ADAPTERS + r"/peeking_take_while\.rs", r"\Z", piece("peeked_end"), 1),
@@ -121,7 +121,7 @@ RULES = [
     (r"traits\.rs", r"^#\[cfg\(feature = \"alloc\"\)\]\n(?=use core::fmt::Display;)",
      '#[cfg(feature = "alloc")]\nuse crate::base::gathering::gathered;\n\\g<0>', 1),
     # Nothing of the second crate is for a third.
-    (r"lib\.rs", r"^#\[doc\(hidden\)\]\npub use [^;]*\{holding, staging\};\n", "", 1),
+    (r"lib\.rs", r"^#\[doc\(hidden\)\]\npub use [^;]*::staging;\n", "", 1),
     (r"lib\.rs", r"^#\[doc\(hidden\)\]\npub (mod traits;)", r"\1", 1),
     (r"lib\.rs", r"^mod errors;", r"mod base;\n\g<0>", 1),
 ]

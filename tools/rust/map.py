@@ -137,8 +137,8 @@ ITERTOOLS = [
      r'    #[cfg(feature = "std")]\n\g<0>', 9),
     (r"lib\.rs", r"\A(?://!.*\n)+\n", HEAD + "mod errors;\nmod fallible_itertools_adapters;\nmod fallible_itertools_consumers;\n", 1),
     # What an adapter of one's own is made of, which no page tells.
-    (r"lib\.rs", r" ZipLongest,\s+holding,\s+staging,\n\};\n",
-     " ZipLongest,\n};\n#[doc(hidden)]\npub use crate::fallible_itertools_adapters::{holding, staging};\n", 1),
+    (r"lib\.rs", r" ZipLongest,\s+staging,\n\};\n",
+     " ZipLongest,\n};\n#[doc(hidden)]\npub use crate::fallible_itertools_adapters::staging;\n", 1),
     (r"lib\.rs", r"^pub mod \w+;", r"#[doc(hidden)]\n\g<0>", 1),
     (CONSUMERS + r"/tail\.rs", r"^use std::collections::VecDeque;", "use alloc::collections::VecDeque;", 1),
     (CONSUMERS + r"/(?:all_unique|counts|group_map|join|k_smallest|partition_map|tail|until_failure)\.rs", r"\A(//.*\n\n)",

@@ -20,10 +20,6 @@ pub use Rattle.fallible_itertools_adapters.proofs.Lemmas.DuplicatesOf
 pub use Rattle.fallible_itertools_adapters.proofs.Lemmas.ErrInto
 pub use Rattle.fallible_itertools_adapters.proofs.Lemmas.FuseAtFailure
 pub use Rattle.fallible_itertools_adapters.proofs.Lemmas.Groups
-pub use Rattle.fallible_itertools_adapters.proofs.Lemmas.Holding
-pub use Rattle.fallible_itertools_adapters.proofs.Lemmas.HoldingHints
-pub use Rattle.fallible_itertools_adapters.proofs.Lemmas.HoldingLists
-pub use Rattle.fallible_itertools_adapters.proofs.Lemmas.HoldingTraces
 pub use Rattle.fallible_itertools_adapters.proofs.Lemmas.InspectErr
 pub use Rattle.fallible_itertools_adapters.proofs.Lemmas.Interleave
 pub use Rattle.fallible_itertools_adapters.proofs.Lemmas.Intersperse

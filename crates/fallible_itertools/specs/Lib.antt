@@ -15,7 +15,6 @@ pub use Rattle.fallible_itertools_adapters.specs.DedupWithCount
 pub use Rattle.fallible_itertools_adapters.specs.Duplicates
 pub use Rattle.fallible_itertools_adapters.specs.ErrInto
 pub use Rattle.fallible_itertools_adapters.specs.FuseAtFailure
-pub use Rattle.fallible_itertools_adapters.specs.Holding
 pub use Rattle.fallible_itertools_adapters.specs.InspectErr
 pub use Rattle.fallible_itertools_adapters.specs.Interleave
 pub use Rattle.fallible_itertools_adapters.specs.Intersperse
@@ -28,6 +27,7 @@ pub use Rattle.fallible_itertools_adapters.specs.MergeBy
 pub use Rattle.fallible_itertools_adapters.specs.MergeJoinBy
 pub use Rattle.fallible_itertools_adapters.specs.MergeTree
 pub use Rattle.fallible_itertools_adapters.specs.OrElse
+pub use Rattle.fallible_itertools_adapters.specs.Outcomes
 pub use Rattle.fallible_itertools_adapters.specs.PadUsing
 pub use Rattle.fallible_itertools_adapters.specs.PeekingTakeWhile
 pub use Rattle.fallible_itertools_adapters.specs.Plan

@@ -12,7 +12,7 @@ pub use fallible_itertools_adapters::{
     DedupWithCount, Duplicates, EitherOrBoth, ErrInto, FuseAtFailure, InspectErr, Interleave,
     Intersperse, IntersperseWith, KMerge, KMergeBy, Merge, MergeBy, MergeJoinBy, OrElse, PadUsing,
     PeekingNext, PeekingTakeWhile, Position, Positions, StopAfter, TakeWhileInclusive,
-    TupleWindows, Tuples, Unique, UniqueBy, WithPosition, ZipEq, ZipLongest, holding, staging,
+    TupleWindows, Tuples, Unique, UniqueBy, WithPosition, ZipEq, ZipLongest, staging,
 };
 pub use fallible_itertools_consumers::{
     CheckedTotal, DoubleEndedFallibleItertools, Either, FoldWhile, MinMaxResult, NotOne, Total,

@@ -37,14 +37,13 @@ ghost use Rattle.fallible_itertools_consumers.specs.Counts.{IsCountsOf};
 ghost use Rattle.fallible_itertools_adapters.specs.Dedup.{dedup_contract, dedup_parts, dedup_stops, deduped};
 ghost use Rattle.fallible_itertools_adapters.specs.DedupBy.{dedup_by_contract, dedup_by_parts, dedup_by_plan, deduped_by, same_call, same_takes};
 ghost use Rattle.fallible_itertools_adapters.specs.DedupByKey as dedup_by_key;
-ghost use Rattle.fallible_itertools_adapters.specs.DedupByWithCount.{dedup_by_with_count_asks, dedup_by_with_count_contract, dedup_by_with_count_parts, dedup_by_with_count_takes};
+ghost use Rattle.fallible_itertools_adapters.specs.DedupByWithCount.{dedup_by_with_count_contract, dedup_by_with_count_parts};
 ghost use Rattle.fallible_itertools_adapters.specs.DedupWithCount.{dedup_with_count_contract, dedup_with_count_parts};
 ghost use Rattle.fallible_itertools_adapters.specs.Duplicates.{duplicates_came, duplicates_contract, duplicates_of, duplicates_parts, duplicates_source};
 ghost use Rattle.fallible_itertools_consumers.specs.Equal.{FirstCall, TestCall, contained, equal_to_first, equal_value, rest_contained, rest_unequal, unequal_pick, value_or_both};
 ghost use Rattle.fallible_itertools_adapters.specs.ErrInto.{err_into_contract, err_into_parts};
 ghost use Rattle.fallible_itertools_consumers.specs.ExactlyOne.{AtMostOneDrains, at_most_one_of, wanting_one};
 ghost use Rattle.fallible_itertools_adapters.specs.FuseAtFailure.{fuse_at_failure_contract, fuse_at_failure_parts, up_to_failure};
-ghost use Rattle.fallible_itertools_adapters.specs.Holding.{MayBeAsked};
 ghost use Rattle.fallible_itertools_consumers.specs.GroupMap.{GroupRefuses, IsGroupMapOf};
 ghost use Rattle.fallible_itertools_adapters.specs.InspectErr.{inspect_err_contract, inspect_err_parts, seen_call};
 ghost use Rattle.fallible_itertools_adapters.specs.OrElse.{or_else_contract, or_else_parts, recovered};
@@ -60,9 +59,9 @@ ghost use Rattle.fallible_itertools_consumers.specs.MinMax.{MinMaxDrains, minmax
 ghost use Rattle.fallible_itertools_consumers.specs.MinMaxBy.{MinMaxCall, MinMaxKeyCall, MinMaxKeyDrains, minmaxed_by, minmaxed_by_key, takes_beside};
 ghost use Rattle.fallible_itertools_adapters.specs.PadUsing as pad_using;
 ghost use Rattle.fallible_itertools_consumers.specs.PositionBest.{PlaceDrains, position_greatest, position_least};
-ghost use Rattle.fallible_itertools_adapters.specs.Plan.{passes, plan_can};
+ghost use Rattle.fallible_itertools_adapters.specs.Plan.{call_on_pair, passes, plan_can, takes_pair};
 ghost use Rattle.fallible_itertools_adapters.specs.Positions.{positions_contract, positions_parts, positions_source, positions_where};
-ghost use Rattle.fallible_itertools_adapters.specs.RunCounts.{deduped_by_with_count, deduped_with_count};
+ghost use Rattle.fallible_itertools_adapters.specs.RunCounts.{count_plan, count_stops, deduped_by_with_count, deduped_with_count};
 ghost use Rattle.fallible_itertools_consumers.specs.Parted.{PartitionedFailuresAs, parted_step, without_source};
 ghost use Rattle.fallible_itertools_consumers.specs.PartitionMap.{EitherRefused, MadeOfEithers};
 ghost use Rattle.fallible_itertools_consumers.specs.FindOrLast.{FoundOrFirst, FoundOrLast, found_or_first, found_or_last};
@@ -287,7 +286,7 @@ pub trait FallibleItertools: FallibleIterator {
     where
         Self::Item: PartialEq + Drop,
         Self::Error: Drop,
-        ensures parts { dedup_with_count_parts result ≡ (self, (None, None)) }
+        ensures parts { dedup_with_count_parts result ≡ (self, ((None, tt), None)) }
         ensures lists { (l : List (Result Self.Item Self.Error))
             → list.Lists Self.contract.steps self l
             → list.Lists (seen_as dedup_with_count_parts
@@ -316,15 +315,14 @@ pub trait FallibleItertools: FallibleIterator {
         Self::Item: Drop,
         Self::Error: Drop,
         F: FnMut(&Self::Item, &Self::Item) -> Result<bool, Self::Error>,
-        requires callable { IsCallable (dedup_by_with_count_asks (call_at_two F.FnMut))
-            (dedup_by_with_count_takes (takes_at_two F.FnMut)) (MayBeAsked Self.contract self)
-            (None, same) }
+        requires callable { plan_can (call_on_pair (call_at_two F.FnMut)) count_plan count_stops
+            (takes_pair (takes_at_two F.FnMut)) (MayMeet Self.contract self) (None, same) }
         ensures parts { dedup_by_with_count_parts result ≡ (self, ((None, same), None)) }
         ensures lists { (h : Self.Item → Self.Item → Result Bool Self.Error)
             (l : List (Result Self.Item Self.Error))
             → list.ActsWith (call_at_two F.FnMut) same h → list.Lists Self.contract.steps self l
             → list.Lists (seen_as dedup_by_with_count_parts
-            (dedup_by_with_count_contract Self.contract F.FnMut)).steps result
+            (dedup_by_with_count_contract F.FnMut Self.contract)).steps result
             (deduped_by_with_count h l) }
     {
         DedupByWithCount::new(self, same)
@@ -348,7 +346,7 @@ pub trait FallibleItertools: FallibleIterator {
     where
         Self::Item: Drop,
         Self::Error: Drop,
-        ensures parts { with_position_parts result ≡ (self, (None, None)) }
+        ensures parts { with_position_parts result ≡ (self, ((None, tt), None)) }
         ensures lists { (l : List (Result Self.Item Self.Error))
             → list.Lists Self.contract.steps self l
             → list.Lists (seen_as with_position_parts (with_position_contract Self.contract)).steps

@@ -20,10 +20,6 @@ pub mod DuplicatesOf
 pub mod ErrInto
 pub mod FuseAtFailure
 pub mod Groups
-pub mod Holding
-pub mod HoldingHints
-pub mod HoldingLists
-pub mod HoldingTraces
 pub mod InspectErr
 pub mod Interleave
 pub mod Intersperse

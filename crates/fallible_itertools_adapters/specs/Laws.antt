@@ -10,8 +10,6 @@ pub mod DedupByKey
 pub mod Duplicates
 pub mod ErrInto
 pub mod FuseAtFailure
-pub mod Holding
-pub mod HoldingTraces
 pub mod InspectErr
 pub mod Interleave
 pub mod Intersperse

@@ -15,7 +15,6 @@ pub mod DedupWithCount
 pub mod Duplicates
 pub mod ErrInto
 pub mod FuseAtFailure
-pub mod Holding
 pub mod InspectErr
 pub mod Interleave
 pub mod Intersperse
@@ -28,6 +27,7 @@ pub mod MergeBy
 pub mod MergeJoinBy
 pub mod MergeTree
 pub mod OrElse
+pub mod Outcomes
 pub mod PadUsing
 pub mod PeekingTakeWhile
 pub mod Plan

@@ -136,11 +136,7 @@ impl<X: Drop, E: From<AllocError>> Stage<((usize, Option<Vec<X>>), ()), X, E> fo
     ghost held = { λ _ p. batch_held p.0 };
 
     #[inline(always)]
-    fn on_item(
-        &self,
-        p: &mut ((usize, Option<Vec<X>>), ()),
-        item: X,
-    ) -> Made<Vec<X>, Stop<E>, E>
+    fn on_item(&self, p: &mut ((usize, Option<Vec<X>>), ()), item: X) -> Made<Vec<X>, Stop<E>, E>
         ensures { plan_item (puts E.from_gives) (chunks_plan vec_count) chunks_stops p.old item result
             p.new }
     {

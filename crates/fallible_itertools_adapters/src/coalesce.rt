@@ -129,9 +129,7 @@ impl<X: Drop, E, F: FnMut(X, X) -> Result<Result<X, (X, X)>, E>> Stage<(Option<X
 
 // What is buffered of the two items then, and what is made.
 #[inline(always)]
-fn by_answer<X, E>(
-    answer: Result<Result<X, (X, X)>, E>,
-) -> (Option<X>, Made<X, Stop<E>, E>)
+fn by_answer<X, E>(answer: Result<Result<X, (X, X)>, E>) -> (Option<X>, Made<X, Stop<E>, E>)
     ensures { Makes (coalesced_by answer) result.1 result.0 }
 {
     match answer {

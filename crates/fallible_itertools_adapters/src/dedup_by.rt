@@ -74,8 +74,7 @@ where
 #[derive(Drop)]
 struct SameStage;
 
-impl<X: Drop, E, F: FnMut(&X, &X) -> Result<bool, E>> Stage<(Option<X>, F), X, E>
-    for SameStage {
+impl<X: Drop, E, F: FnMut(&X, &X) -> Result<bool, E>> Stage<(Option<X>, F), X, E> for SameStage {
     type Kept = X;
 
     type Due = Stop<E>;
@@ -128,11 +127,7 @@ impl<X: Drop, E, F: FnMut(&X, &X) -> Result<bool, E>> Stage<(Option<X>, F), X, E
 
 // What is buffered of the two items then, and what is made.
 #[inline(always)]
-fn by_same<X: Drop, E>(
-    first: X,
-    item: X,
-    same: Result<bool, E>,
-) -> (Option<X>, Made<X, Stop<E>, E>)
+fn by_same<X: Drop, E>(first: X, item: X, same: Result<bool, E>) -> (Option<X>, Made<X, Stop<E>, E>)
     ensures { Makes (same_by first item same) result.1 result.0 }
 {
     match same {

@@ -96,11 +96,7 @@ impl<X: PartialEq + Drop, E> Stage<(Option<(usize, X)>, ()), X, E> for EqualCoun
     ghost held = { λ _ p. held_one p.0 };
 
     #[inline(always)]
-    fn on_item(
-        &self,
-        p: &mut (Option<(usize, X)>, ()),
-        item: X,
-    ) -> Made<(usize, X), Stop<E>, E>
+    fn on_item(&self, p: &mut (Option<(usize, X)>, ()), item: X) -> Made<(usize, X), Stop<E>, E>
         ensures { plan_item (calls_function (are_equal X.eq)) count_plan count_stops p.old item result
             p.new }
     {

@@ -13,7 +13,6 @@ pub mod dedup_with_count;
 pub mod duplicates;
 pub mod err_into;
 pub mod fuse_at_failure;
-pub mod holding;
 pub mod inspect_err;
 pub mod interleave;
 pub mod intersperse;

@@ -117,9 +117,9 @@ pub trait Stage<P, X, E> {
         (held stage) };
 }
 
-// What becomes of an answer of the source.
+/// What becomes of an answer of the source.
 #[inline(always)]
-fn made_of<P, X, E, G: Stage<P, X, E>>(
+pub fn made_of<P, X, E, G: Stage<P, X, E>>(
     answer: Result<Option<X>, E>,
     p: &mut P,
     stage: &G,

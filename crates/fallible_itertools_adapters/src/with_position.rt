@@ -122,11 +122,7 @@ impl<X: Drop, E> Stage<(Option<(bool, X)>, ()), X, E> for PositionStage {
     ghost held = { λ _ p. held_one p.0 };
 
     #[inline(always)]
-    fn on_item(
-        &self,
-        p: &mut (Option<(bool, X)>, ()),
-        item: X,
-    ) -> Made<(Position, X), Stop<E>, E>
+    fn on_item(&self, p: &mut (Option<(bool, X)>, ()), item: X) -> Made<(Position, X), Stop<E>, E>
         ensures { plan_item calls_nothing position_plan position_stops p.old item result p.new }
     {
         let is_later = p.0.is_some();

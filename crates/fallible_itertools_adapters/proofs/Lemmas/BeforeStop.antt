@@ -11,12 +11,12 @@ use Rattle.fallible_iterator.proofs.Lemmas.Hints.Joining.{if_some_fitting_sum_at
 use Rattle.fallible_itertools_adapters.specs.Adjacent.{AdjacentItems}
 use Rattle.fallible_itertools_adapters.specs.BeforeStop.{HintsPastFailure, HintsWhereHeld, before_stop, held_hints, held_one, hint_unless_end}
 use Rattle.fallible_itertools_adapters.specs.Laws.Plan.{Always, ItemWeighs}
-use Rattle.fallible_itertools_adapters.specs.Plan.{HintBy, HintPlan, Making, Plan, calls, makes, plan_hint, plan_meets}
+use Rattle.fallible_itertools_adapters.specs.Plan.{HintBy, HintPlan, Making, Plan, bounded, calls, makes, plan_hint, plan_meets}
 use Rattle.fallible_itertools_adapters.specs.Staged.{as_function, before_rest, followed, made_first, plan_does, staged}
 use Rattle.fallible_itertools_adapters.specs.Staging.{EndsInStop, Made, due_total, items_of, made_total, stage_contract, stage_step, stop_comes}
 use Rattle.fallible_itertools_adapters.proofs.Lemmas.Adjacent.{EachNext, HoldsOfNext, adjacent_items_of_each_next}
-use Rattle.fallible_itertools_adapters.proofs.Lemmas.PlanHints.{PlanMakes, hints_as_sound_plan}
-use Rattle.fallible_itertools_adapters.proofs.Lemmas.StagingHints.{DueFew, MadeFew}
+use Rattle.fallible_itertools_adapters.proofs.Lemmas.PlanHints.{PlanMakes, hints_as_sound_by_makes, makes_at_most_plan, makes_no_fewer_plan}
+use Rattle.fallible_itertools_adapters.proofs.Lemmas.StagingHints.{DueFew, MadeFew, MakesAtMost, MakesNoFewer}
 use Rattle.fallible_itertools_adapters.proofs.Lemmas.StagingLists.{EndMade}
 
 -- ---- what an item makes
@@ -149,8 +149,8 @@ none_at_end (Some None) low = 0
 none_at_end (Some (Some e)) low = low
 none_at_end None low = low
 
--- `most h n` and `Few h low n` bound the items, as in `PlanMakes`; `low` and `high` are the bounds of the hint where no end is due.
-module _ {H F Q R X B E : Type 0} (call : F → Q → R → F → Type 0) (plan : H → X → Plan Q R (Making H B (Option E) E)) (stops : H → Option E → Making H B (Option E) E) (most : H → ℕ → ℕ) (Few : H → ℕ → ℕ → Type 0) (plan_makes : PlanMakes stop_comes call plan stops most Few) (low : H → ℕ → ℕ) (high : H → Option ℕ → Option ℕ) (above : (h : H) (o : Option ℕ) (n : ℕ) → IfSome o (λ j. n ≤ j) → IfSome (high h o) (λ j. most h n ≤ j)) (below : (h : H) (n k : ℕ) → Few h n k → low h n ≤ k) where
+-- `most h n` and `Few h low n` bound the items, as in `MakesAtMost` and `MakesNoFewer`; `low` and `high` are the bounds of the hint where no end is due.
+module _ {H F Q R X B E : Type 0} (call : F → Q → R → F → Type 0) (plan : H → X → Plan Q R (Making H B (Option E) E)) (stops : H → Option E → Making H B (Option E) E) (most : H → ℕ → ℕ) (Few : H → ℕ → ℕ → Type 0) (at_most : MakesAtMost stop_comes (plan_meets call plan stops) (λ p n. most p.0 n)) (no_fewer : MakesNoFewer stop_comes (plan_meets call plan stops) (λ p low n. Few p.0 low n)) (low : H → ℕ → ℕ) (high : H → Option ℕ → Option ℕ) (above : (h : H) (o : Option ℕ) (n : ℕ) → IfSome o (λ j. n ≤ j) → IfSome (high h o) (λ j. most h n ≤ j)) (below : (h : H) (n k : ℕ) → Few h n k → low h n ≤ k) where
   abbrev hint_of : H → HintPlan
   hint_of h = calls tt (λ k. (low h k.0, high h k.1))
 
@@ -185,12 +185,17 @@ module _ {H F Q R X B E : Type 0} (call : F → Q → R → F → Type 0) (plan 
     past_failure s e due t h step is = let w : StepsHere (given s (Some (Some e))) (Err e) (view t) = subst (λ (d : Option (Option E)). StepsHere (given s d) (Err e) (view t)) due step in
         subst (λ (p : S × ((H × F) × Option (Option E))). HintBy m p.0 (hint_unless_end (hint_of p.1.0.0) p.1.1) h) (sym (ap (λ (z : S). (z, (view t).1)) w.1 ∙ ap (λ (z : (H × F) × Option (Option E)). ((view s).0, z)) w.2)) (subst (λ (d : Option (Option E)). HintBy m (view s).0 (hint_unless_end (hint_of (view s).1.0.0) d) h) due is)
 
-    pub hints_where_held : HintsWhereHeld Here (λ s. (view s).1.1) m (λ s. (view s).0)
-    hints_where_held = record {
-      none_due = λ s none. hints_as_sound_plan stop_comes call plan stops most Few plan_makes (λ h due n. none_at_end due (low h n)) (λ h due o. high h o) above_due below_due view m can count held (λ h due. hint_unless_end (hint_of h) due) s (hint_where_none_due s none);
+    pub hints_where_held_by_makes : HintsWhereHeld Here (λ s. (view s).1.1) m (λ s. (view s).0)
+    hints_where_held_by_makes = record {
+      none_due = λ s none. hints_as_sound_by_makes stop_comes call plan stops most Few at_most no_fewer (λ h due n. none_at_end due (low h n)) (λ h due o. high h o) above_due below_due view m can count held (λ h due. hint_unless_end (hint_of h) due) s (hint_where_none_due s none);
       due = sound_where_stop_due;
       failure_due = past_failure;
     }
+
+-- the same, of what each plan makes
+module _ {H F Q R X B E : Type 0} (call : F → Q → R → F → Type 0) (plan : H → X → Plan Q R (Making H B (Option E) E)) (stops : H → Option E → Making H B (Option E) E) (most : H → ℕ → ℕ) (Few : H → ℕ → ℕ → Type 0) (plan_makes : PlanMakes stop_comes call plan stops most Few) (low : H → ℕ → ℕ) (high : H → Option ℕ → Option ℕ) (above : (h : H) (o : Option ℕ) (n : ℕ) → IfSome o (λ j. n ≤ j) → IfSome (high h o) (λ j. most h n ≤ j)) (below : (h : H) (n k : ℕ) → Few h n k → low h n ≤ k) where
+  pub hints_where_held : {V S : Type 0} (view : V → S × ((H × F) × Option (Option E))) (m : Contract S X E) (can : (Answered X E → Type 0) → H × F → Type 0) (count : ℕ) (held : H × F → ℕ) → HintsWhereHeld (parts_as view (stage_contract m stop_comes (plan_meets call plan stops) can count held (plan_hint m (λ h due. hint_unless_end (calls tt (λ k. (low h k.0, high h k.1))) due)))) (λ s. (view s).1.1) m (λ s. (view s).0)
+  hints_where_held = hints_where_held_by_makes call plan stops most Few (makes_at_most_plan stop_comes call plan stops most Few plan_makes) (makes_no_fewer_plan stop_comes call plan stops most Few plan_makes) low high above below
 
 -- ---- at least one, where the source has one or one is held
 
@@ -240,5 +245,5 @@ module _ {H B : Type 0} (E : Type 0) (kept : H → Option B) (empty : H → H) (
       no_fewer_at_failure = λ h e low. few_at_failure (kept h) e _ _;
     }
 
-    pub hints_where_one_held : {V S : Type 0} (view : V → S × ((H × F) × Option (Option E))) (m : Contract S X E) (can : (Answered X E → Type 0) → H × F → Type 0) (count : ℕ) → HintsWhereHeld (parts_as view (stage_contract m stop_comes (plan_meets call plan (λ h stop. (before_stop (kept h) stop, empty h))) can count (λ p. held p.0) (plan_hint m (held_hints held)))) (λ s. (view s).1.1) m (λ s. (view s).0)
-    hints_where_one_held view m can count = hints_where_held call plan (λ h stop. (before_stop (kept h) stop, empty h)) (λ h n. n + held h) (λ h low n. min (low + held h) 1 ≤ n) makes_held (λ h n. min (n + held h) 1) (λ h o. fitting_sum o (Some (held h))) (λ h o n le. if_some_fitting_sum_at_least_both o (Some (held h)) n (held h) (n + held h) (omega arith) le (omega arith)) (λ h n k few. few) view m can count (λ p. held p.0)
+    pub hints_where_one_held : {V S : Type 0} (view : V → S × ((H × F) × Option (Option E))) (m : Contract S X E) (can : (Answered X E → Type 0) → H × F → Type 0) (count : ℕ) → HintsWhereHeld (parts_as view (stage_contract (bounded m) stop_comes (plan_meets call plan (λ h stop. (before_stop (kept h) stop, empty h))) can count (λ p. held p.0) (plan_hint (bounded m) (held_hints held)))) (λ s. (view s).1.1) m (λ s. (view s).0)
+    hints_where_one_held view m can count = let w = hints_where_held call plan (λ h stop. (before_stop (kept h) stop, empty h)) (λ h n. n + held h) (λ h low n. min (low + held h) 1 ≤ n) makes_held (λ h n. min (n + held h) 1) (λ h o. fitting_sum o (Some (held h))) (λ h o n le. if_some_fitting_sum_at_least_both o (Some (held h)) n (held h) (n + held h) (omega arith) le (omega arith)) (λ h n k few. few) view (bounded m) can count (λ p. held p.0) in record { none_due = w.none_due; due = w.due; failure_due = w.failure_due }

@@ -12,8 +12,9 @@ use Rattle.fallible_itertools_adapters.specs.BeforeStop.{before_stop}
 use Rattle.fallible_itertools_adapters.specs.Chunks.{batch_at, batch_by, chunked, chunks_contract, chunks_parts, chunks_plan, chunks_stops, puts, vec_count}
 use Rattle.fallible_itertools_adapters.specs.Plan.{Makes, Making, plan_item, plan_meets}
 use Rattle.fallible_itertools_adapters.specs.Staging.{Made, one_made}
+use Rattle.fallible_itertools_adapters.proofs.Lemmas.BeforeStop.{end_before_stop}
 use Rattle.fallible_itertools_adapters.proofs.Lemmas.Chunked.{chunked_from_is_never_nil}
-use Rattle.fallible_itertools_adapters.proofs.Lemmas.StagedMade.{HeldMade, MadeAlike, PlansAlike, RefusalAfterHeld, before_stop_made, end_made_of_before_stop, gives_made_plan}
+use Rattle.fallible_itertools_adapters.proofs.Lemmas.StagedMade.{HeldMade, MadeAlike, PlansAlike, RefusalAfterHeld, before_stop_made, gives_made_plan}
 use Rattle.std.specs.declared.vec.Vec.{Vec}
 use Rattle.std.specs.declared.alloc.Global.{Global}
 use Rattle.std.specs.declared.alloc.AllocError.{AllocError}
@@ -114,4 +115,4 @@ module _ {A E : Type 0} (from : AllocError → E → Type 0) where
 pub lists_up_to_refusal_chunked : {S A E : Type 0} {it : S} (m : Contract S A E) (from : AllocError → E → Type 0) (n : ℕ) (s : Chunks S A E) (l : List (Result A E)) → chunks_parts s ≡ (it, (((n, None), tt), None)) → Lists m.steps it l → ListsMade (λ xs v. vec_items v ≡ xs) (parts_as chunks_parts (chunks_contract from m)).steps from s (chunked n l)
 unfolding chunked
 lists_up_to_refusal_chunked {E = E} {it = it} m from n s l parts i = lists_made_seen (λ xs v. vec_items v ≡ xs) from chunks_parts (chunks_contract from m).steps s _ _ _ parts refl
-    (gives_made_plan (puts from) (chunks_plan vec_count) chunks_stops (put_of from) (chunks_plan length) chunks_stops batch_made from tt (HeldAlike from) (chunks_plans_alike from) (chunks_stops_alike from) m.steps (λ v. (vec_items v, refl)) (λ k. end_made_of_before_stop E k.1) (λ k y l is. chunked_from_is_never_nil E k.0 k.1 y l is) l it (n, None) (n, None) (refl, tt) i.runs)
+    (gives_made_plan (puts from) (chunks_plan vec_count) chunks_stops (put_of from) (chunks_plan length) chunks_stops batch_made from tt (HeldAlike from) (chunks_plans_alike from) (chunks_stops_alike from) m.steps (λ v. (vec_items v, refl)) (λ k. end_before_stop E k.1) (λ k y l is. chunked_from_is_never_nil E k.0 k.1 y l is) l it (n, None) (n, None) (refl, tt) i.runs)

@@ -2,12 +2,13 @@
 use Rattle.std.specs.Prelude.{◌≡◌, ℕ, ◌+◌, ◌-◌, ◌^◌, min, Bool, true, false, Option, Some, None, Result, Ok, Err, List, [], ◌∷◌, ◌++◌, length}
 use Rattle.std.proofs.Common.{refl, sym, ap, arith, length-append, ◌∙◌}
 use Rattle.fallible_iterator.specs.Lists.{mapped}
-use Rattle.fallible_itertools_adapters.specs.ChunkBy.{chunked_by, chunked_by_from, group_or}
+use Rattle.fallible_itertools_adapters.specs.ChunkBy.{chunked_by}
 use Rattle.fallible_itertools_adapters.specs.Dedup.{dedup_plan, dedup_stops, deduped, unless_same}
 use Rattle.fallible_itertools_adapters.specs.DedupBy.{deduped_by, deduped_by_from, same_before}
 use Rattle.fallible_itertools_adapters.specs.Staged.{as_function, made_first, plan_does, staged}
 use Rattle.fallible_itertools_adapters.specs.Staging.{stop_comes}
 use Rattle.fallible_itertools_adapters.specs.RunCounts.{deduped_by_with_count, deduped_with_count, first_once_more, one_more}
+use Rattle.fallible_itertools_adapters.proofs.Lemmas.ChunkedBy.{group_or, grouped_at_next, grouped_from}
 use Rattle.fallible_itertools_adapters.proofs.Lemmas.RunCounts.{counted_first, counted_from, counted_before_failure, counted_of_failed, counted_of_failure, counted_of_none, counted_of_one, counted_of_other, counted_of_same}
 
 -- ---- without the numbers
@@ -128,7 +129,7 @@ module _ {A E : Type 0} (eq : A → A → Bool) where
   equal_or_not y x = Ok (eq y x)
 
   abbrev groups_from : Option (A × List A) → List (Result A E) → List (Result (A × List A) E)
-  groups_from a l = chunked_by_from eq (λ x. Ok x) a l
+  groups_from a l = grouped_from eq (λ x. Ok x) a l
 
   abbrev groups_counted : List (Result (A × List A) E) → List (Result (ℕ × A) E)
   groups_counted l = mapped (λ g. Ok (group_counted g)) l
@@ -146,11 +147,11 @@ module _ {A E : Type 0} (eq : A → A → Bool) where
   counted_first_is_groups_counted g x false l rest = ap (λ k. Ok (group_counted g) ∷ k) (counted_from_one_is_groups_counted x l rest)
 
   counted_from_is_groups_counted : (a : Option (A × List A)) (l : List (Result A E)) → counted_from equal_or_not (held_counted a) l ≡ groups_counted (groups_from a l)
-  unfolding mapped chunked_by_from
+  unfolding mapped
   counted_from_is_groups_counted None [] = refl
   counted_from_is_groups_counted (Some g) [] = refl
   counted_from_is_groups_counted None (Ok x ∷ l) = counted_from_one_is_groups_counted x l (λ a. counted_from_is_groups_counted a l)
-  counted_from_is_groups_counted (Some g) (Ok x ∷ l) = counted_first_is_groups_counted g x (eq g.0 x) l (λ a. counted_from_is_groups_counted a l)
+  counted_from_is_groups_counted (Some g) (Ok x ∷ l) = counted_first_is_groups_counted g x (eq g.0 x) l (λ a. counted_from_is_groups_counted a l) ∙ sym (ap groups_counted (grouped_at_next eq (λ x. Ok x) g x x l))
   counted_from_is_groups_counted None (Err e ∷ l) = ap (λ k. Err e ∷ k) (counted_from_is_groups_counted None l)
   counted_from_is_groups_counted (Some g) (Err e ∷ l) = ap (λ k. Ok (group_counted g) ∷ Err e ∷ k) (counted_from_is_groups_counted None l)
 

@@ -39,27 +39,34 @@ module _ {H F Q R X B L E : Type 0} (comes : L → Option (Answered B E)) (call 
     at_most_at_stop_met p (Ok None) m q stop w = stop_of_made p.0 (stops p.0 None) m q.0 w.0 (plan_makes.at_most_at_stop p.0 None)
     at_most_at_stop_met p (Err e) m q stop w = stop_of_made p.0 (stops p.0 (Some e)) m q.0 w.0 (plan_makes.at_most_at_stop p.0 (Some e))
 
-    makes_at_most_plan : MakesAtMost comes (plan_meets call plan stops) (λ p n. most p.0 n)
+    pub makes_at_most_plan : MakesAtMost comes (plan_meets call plan stops) (λ p n. most p.0 n)
     makes_at_most_plan = record {
       at_item = λ p x m q n w. let t = always_of_follows call _ (plan p.0 x) p.1 m q.0 q.1 w (plan_makes.at_most p.0 x n) in most_of_made p.0 n t.0 m q.0 t.1 t.2;
       at_stop = at_most_at_stop_met;
     }
 
-    makes_no_fewer_plan : MakesNoFewer comes (plan_meets call plan stops) (λ p low n. Few p.0 low n)
+    pub makes_no_fewer_plan : MakesNoFewer comes (plan_meets call plan stops) (λ p low n. Few p.0 low n)
     makes_no_fewer_plan = record {
       at_item = λ p x m q low w. let t = always_of_follows call _ (plan p.0 x) p.1 m q.0 q.1 w (plan_makes.no_fewer p.0 x low) in few_of_made p.0 low (low - 1) t.0 m q.0 t.1 t.2;
       at_end = λ p m q w. few_of_made p.0 0 0 (stops p.0 None) m q.0 w.0 (plan_makes.no_fewer_at_end p.0);
       at_failure = λ p e m q low w. few_of_made p.0 low 0 (stops p.0 (Some e)) m q.0 w.0 (plan_makes.no_fewer_at_failure p.0 e low);
     }
 
-    -- the two bounds of its hint, each of one of the source's
-    module _ (low : H → Option L → ℕ → ℕ) (high : H → Option L → Option ℕ → Option ℕ) (above : (h : H) (due : Option L) (o : Option ℕ) (n : ℕ) → IfSome o (λ j. n ≤ j) → IfSome (high h due o) (λ j. due_total comes items_of due + most h n ≤ j)) (below : (h : H) (due : Option L) (n : ℕ) → DueFew comes due (λ k. Few h n k) (λ k. low h due n ≤ k)) where
-      brackets_plan : {S : Type 0} (steps : S → Answered X E → S → Type 0) (s : S) (h : H) (f : F) (due : Option L) (k : ℕ × Option ℕ) → Brackets steps s k → Brackets (stage_step comes (plan_meets call plan stops) steps) (s, ((h, f), due)) (low h due k.0, high h due k.1)
-      brackets_plan steps s h f due k b = record {
-        above = bounds_above_staged steps comes (plan_meets call plan stops) (λ p n. most p.0 n) makes_at_most_plan k.1 _ s (h, f) due (λ n le. above h due k.1 n le) b.above;
-        below = bounds_below_staged steps comes (plan_meets call plan stops) (λ p i n. Few p.0 i n) makes_no_fewer_plan k.0 _ s (h, f) due (below h due k.0) b.below;
-      }
+-- ---- the hint
 
-      -- where the hint is made of one of the source's
-      pub hints_as_sound_plan : {V S : Type 0} (view : V → S × ((H × F) × Option L)) (m : Contract S X E) (can : (Answered X E → Type 0) → H × F → Type 0) (count : ℕ) (held : H × F → ℕ) (hint : H → Option L → HintPlan) (s : V) → hint (view s).1.0.0 (view s).1.1 ≡ calls tt (λ k. (low (view s).1.0.0 (view s).1.1 k.0, high (view s).1.0.0 (view s).1.1 k.1)) → HintsAsSoundAs (parts_as view (stage_contract m comes (plan_meets call plan stops) can count held (plan_hint m hint))) s m (view s).0
-      hints_as_sound_plan view m can count held hint s made h is = let of = subst (λ j. HintBy m (view s).0 j h) made is in (of.0, of.1, as_sound_of_brackets (λ u r v. stage_step comes (plan_meets call plan stops) m.steps (view u) r (view v)) m.steps s (view s).0 (low (view s).1.0.0 (view s).1.1) (high (view s).1.0.0 (view s).1.1) (λ k b. brackets_of_brackets_at_view view (λ u r v. stage_step comes (plan_meets call plan stops) m.steps (view u) r (view v)) (stage_step comes (plan_meets call plan stops) m.steps) (λ u r v w. w) s _ (brackets_plan m.steps (view s).0 (view s).1.0.0 (view s).1.0.1 (view s).1.1 k b)) h of.0 of.2)
+-- `low` and `high` are the two bounds of its hint, each of one of the source's.
+module _ {H F Q R X B L E : Type 0} (comes : L → Option (Answered B E)) (call : F → Q → R → F → Type 0) (plan : H → X → Plan Q R (Making H B L E)) (stops : H → Option E → Making H B L E) (most : H → ℕ → ℕ) (Few : H → ℕ → ℕ → Type 0) (at_most : MakesAtMost comes (plan_meets call plan stops) (λ p n. most p.0 n)) (no_fewer : MakesNoFewer comes (plan_meets call plan stops) (λ p low n. Few p.0 low n)) (low : H → Option L → ℕ → ℕ) (high : H → Option L → Option ℕ → Option ℕ) (above : (h : H) (due : Option L) (o : Option ℕ) (n : ℕ) → IfSome o (λ j. n ≤ j) → IfSome (high h due o) (λ j. due_total comes items_of due + most h n ≤ j)) (below : (h : H) (due : Option L) (n : ℕ) → DueFew comes due (λ k. Few h n k) (λ k. low h due n ≤ k)) where
+  brackets_plan : {S : Type 0} (steps : S → Answered X E → S → Type 0) (s : S) (h : H) (f : F) (due : Option L) (k : ℕ × Option ℕ) → Brackets steps s k → Brackets (stage_step comes (plan_meets call plan stops) steps) (s, ((h, f), due)) (low h due k.0, high h due k.1)
+  brackets_plan steps s h f due k b = record {
+    above = bounds_above_staged steps comes (plan_meets call plan stops) (λ p n. most p.0 n) at_most k.1 _ s (h, f) due (λ n le. above h due k.1 n le) b.above;
+    below = bounds_below_staged steps comes (plan_meets call plan stops) (λ p i n. Few p.0 i n) no_fewer k.0 _ s (h, f) due (below h due k.0) b.below;
+  }
+
+  -- where the hint is made of one of the source's
+  pub hints_as_sound_by_makes : {V S : Type 0} (view : V → S × ((H × F) × Option L)) (m : Contract S X E) (can : (Answered X E → Type 0) → H × F → Type 0) (count : ℕ) (held : H × F → ℕ) (hint : H → Option L → HintPlan) (s : V) → hint (view s).1.0.0 (view s).1.1 ≡ calls tt (λ k. (low (view s).1.0.0 (view s).1.1 k.0, high (view s).1.0.0 (view s).1.1 k.1)) → HintsAsSoundAs (parts_as view (stage_contract m comes (plan_meets call plan stops) can count held (plan_hint m hint))) s m (view s).0
+  hints_as_sound_by_makes view m can count held hint s made h is = let of = subst (λ j. HintBy m (view s).0 j h) made is in (of.0, of.1, as_sound_of_brackets (λ u r v. stage_step comes (plan_meets call plan stops) m.steps (view u) r (view v)) m.steps s (view s).0 (low (view s).1.0.0 (view s).1.1) (high (view s).1.0.0 (view s).1.1) (λ k b. brackets_of_brackets_at_view view (λ u r v. stage_step comes (plan_meets call plan stops) m.steps (view u) r (view v)) (stage_step comes (plan_meets call plan stops) m.steps) (λ u r v w. w) s _ (brackets_plan m.steps (view s).0 (view s).1.0.0 (view s).1.0.1 (view s).1.1 k b)) h of.0 of.2)
+
+-- the same, of what each plan makes
+module _ {H F Q R X B L E : Type 0} (comes : L → Option (Answered B E)) (call : F → Q → R → F → Type 0) (plan : H → X → Plan Q R (Making H B L E)) (stops : H → Option E → Making H B L E) (most : H → ℕ → ℕ) (Few : H → ℕ → ℕ → Type 0) (plan_makes : PlanMakes comes call plan stops most Few) (low : H → Option L → ℕ → ℕ) (high : H → Option L → Option ℕ → Option ℕ) (above : (h : H) (due : Option L) (o : Option ℕ) (n : ℕ) → IfSome o (λ j. n ≤ j) → IfSome (high h due o) (λ j. due_total comes items_of due + most h n ≤ j)) (below : (h : H) (due : Option L) (n : ℕ) → DueFew comes due (λ k. Few h n k) (λ k. low h due n ≤ k)) where
+  pub hints_as_sound_plan : {V S : Type 0} (view : V → S × ((H × F) × Option L)) (m : Contract S X E) (can : (Answered X E → Type 0) → H × F → Type 0) (count : ℕ) (held : H × F → ℕ) (hint : H → Option L → HintPlan) (s : V) → hint (view s).1.0.0 (view s).1.1 ≡ calls tt (λ k. (low (view s).1.0.0 (view s).1.1 k.0, high (view s).1.0.0 (view s).1.1 k.1)) → HintsAsSoundAs (parts_as view (stage_contract m comes (plan_meets call plan stops) can count held (plan_hint m hint))) s m (view s).0
+  hints_as_sound_plan = hints_as_sound_by_makes comes call plan stops most Few (makes_at_most_plan comes call plan stops most Few plan_makes) (makes_no_fewer_plan comes call plan stops most Few plan_makes) low high above below

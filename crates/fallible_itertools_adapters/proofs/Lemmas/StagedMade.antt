@@ -30,10 +30,6 @@ module _ {Y B : Type 0} (made : Y → B → Type 0) where
   due_stop_made None = refl
   due_stop_made (Some e) = refl
 
-pub end_made_of_before_stop : {Y : Type 0} (E : Type 0) (y : Option Y) → EndMade {E = E} stop_comes (before_stop y None)
-end_made_of_before_stop E None = inl refl
-end_made_of_before_stop E (Some y) = inr refl
-
 -- `At h k` says that h is held where the list holds k. The list's plan is `list_plan`, and `acts` its call.
 module _ {F H K Q R V W X Y B E : Type 0} (call : F → Q → R → F → Type 0) (plan : H → X → Plan Q R (Making H B (Option E) E)) (stops : H → Option E → Making H B (Option E) E) (acts : V → W) (list_plan : K → X → Plan V W (Making K Y (Option E) E)) (list_stops : K → Option E → Making K Y (Option E) E) (made : Y → B → Type 0) (from : AllocError → E → Type 0) (f : F) (At : H → K → Type 0) where
   -- an allocation failed: what is held, and the failure then

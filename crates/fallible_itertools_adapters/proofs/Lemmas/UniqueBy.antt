@@ -16,7 +16,7 @@ use Rattle.fallible_iterator.specs.Passing.{passing_step}
 use Rattle.fallible_iterator.specs.Laws.Passing.{Passes, done, end_passes, failure_passes, keeps, refuses, closes, leaves_out, passes_of_pass_trace, pass_trace_of_passes}
 use Rattle.fallible_iterator.proofs.Lemmas.Lists.Passing.{end_of_nil, answer_is_failure_first_in_list}
 use Rattle.fallible_iterator.proofs.Lemmas.Seen.{has_seen_more}
-use Rattle.fallible_itertools_adapters.specs.Holding.{as_answered_item}
+use Rattle.fallible_itertools_adapters.specs.Outcomes.{as_answered_item}
 use Rattle.fallible_itertools_adapters.specs.Unique.{first_of_equal}
 use Rattle.fallible_itertools_adapters.specs.UniqueBy.{first_of_key, key_asks, key_at, keyed_by, unique_by_contract, unique_by_keys, unique_by_parts, unique_by_key, unique_key_from}
 use Rattle.fallible_itertools_adapters.specs.UnlessRefused.{GivesUnlessRefused, ListsUnlessRefused}

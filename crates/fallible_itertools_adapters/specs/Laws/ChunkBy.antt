@@ -25,7 +25,7 @@ module _ {K V : Type 0} (E : Type 0) where
   refused_weighs (Some g) None e = (omega arith, omega arith)
   refused_weighs (Some g) (Some v) e = (omega arith, omega arith)
 
-  group_by_weighs : (eq : K → K → Bool) (held : Option (K × V)) (v : KeyedPut K V E) → ItemWeighs stop_comes 1 held_one held (group_by eq held v)
+  pub group_by_weighs : (eq : K → K → Bool) (held : Option (K × V)) (v : KeyedPut K V E) → ItemWeighs stop_comes 1 held_one held (group_by eq held v)
   group_by_weighs eq None (Ok (k, Ok v)) = (omega arith, omega arith)
   group_by_weighs eq (Some g) (Ok (k, Ok v)) = group_at_weighs g k v (eq g.0 k)
   group_by_weighs eq held (Ok (k, Err (kept, e))) = refused_weighs held kept e

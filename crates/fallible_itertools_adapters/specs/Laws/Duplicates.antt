@@ -3,7 +3,7 @@ use Rattle.std.specs.Prelude.{Bool, ⊤}
 use Rattle.fallible_iterator.specs.Contract.{Contract, Lawful}
 use Rattle.fallible_iterator.specs.Hints.{upper_alone}
 use Rattle.fallible_iterator.specs.Laws.Passing.{lawful_leaving_out}
-use Rattle.fallible_itertools_adapters.specs.Holding.{as_answered_item}
+use Rattle.fallible_itertools_adapters.specs.Outcomes.{as_answered_item}
 use Rattle.fallible_itertools_adapters.specs.Duplicates.{duplicates_asks, duplicates_contract}
 use Rattle.std.specs.declared.alloc.AllocError.{AllocError}
 

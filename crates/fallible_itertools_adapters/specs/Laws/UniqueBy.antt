@@ -10,7 +10,7 @@ use Rattle.fallible_iterator.specs.Closures.{IsCallable, Reaches, call_by_refere
 use Rattle.fallible_iterator.specs.Hints.{upper_alone}
 use Rattle.fallible_iterator.specs.Laws.Closures.{is_callable_after, reaches_by_call_first, reaches_reflexive}
 use Rattle.fallible_iterator.specs.Laws.Passing.{lawful_leaving_out}
-use Rattle.fallible_itertools_adapters.specs.Holding.{as_answered_item}
+use Rattle.fallible_itertools_adapters.specs.Outcomes.{as_answered_item}
 use Rattle.fallible_itertools_adapters.specs.UniqueBy.{key_asks, key_callable, key_takes, unique_by_contract}
 use Rattle.std.specs.declared.alloc.AllocError.{AllocError}
 use Rattle.fallible_iterator.specs.Outcome.{Outcome}

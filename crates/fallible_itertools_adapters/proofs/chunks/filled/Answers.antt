@@ -12,5 +12,5 @@ loop-made-preserved g c = record {
   whole = λ r t q w. c.loop-made.invariant.whole r t q (passes_over c.draw.result c.draw.ensures.drawn (rw c.in-None.is at c.made_of.ensures) w);
 }
 
-pub loop-made-decreases : goal.loop-made-decreases
-loop-made-decreases g c = room_shrinks_where_none_made g.I.Error.From.from_gives _ _ c.draw.result (rw c.in-None.is at c.made_of.ensures)
+pub loop-made-smaller : goal.loop-made-smaller
+loop-made-smaller g c = room_shrinks_where_none_made g.I.Error.From.from_gives _ _ c.draw.result (rw c.in-None.is at c.made_of.ensures)

@@ -1,6 +1,6 @@
 -- The fold of what lets items pass.
 use Rattle.fallible_iterator.proofs.Lemmas.Folding.{holds_at_each_turn_of_held, drained_of_holder, takes_where_always_callable}
-use Rattle.fallible_itertools_adapters.specs.Holding.{as_answered_item}
+use Rattle.fallible_itertools_adapters.specs.Outcomes.{as_answered_item}
 use Rattle.fallible_itertools_adapters.specs.Duplicates.{duplicates_asks}
 use Rattle.fallible_itertools_adapters.proofs.duplicates.DuplicatesFallibleIterator.drive.Goals as goal
 

@@ -1,7 +1,7 @@
 -- The fold of what lets items pass.
 use Rattle.fallible_iterator.specs.Closures.{call_by_reference}
 use Rattle.fallible_iterator.proofs.Lemmas.Folding.{holds_each_turn_of_source_fold, holds_at_each_turn_of_held, drained_of_holder}
-use Rattle.fallible_itertools_adapters.specs.Holding.{as_answered_item}
+use Rattle.fallible_itertools_adapters.specs.Outcomes.{as_answered_item}
 use Rattle.fallible_itertools_adapters.specs.UniqueBy.{key_asks}
 use Rattle.fallible_itertools_adapters.specs.Laws.UniqueBy.{is_callable_key}
 use Rattle.fallible_itertools_adapters.proofs.unique_by.UniqueByFallibleIterator.drive.Goals as goal
