@@ -27,7 +27,7 @@ ghost use Rattle.fallible_iterator.specs.OneToOne.Map.{map_contract};
 ghost use Rattle.fallible_iterator.specs.Picking.{call_at_two, takes_at_two};
 ghost use Rattle.fallible_iterator.specs.Searching as search;
 ghost use Rattle.fallible_itertools_consumers.specs.AllUnique.{AllUniqueAs, AllUniqueDrains, rest_repeated};
-ghost use Rattle.fallible_itertools_adapters.specs.ChunkBy.{MadeGroup, chunk_by_contract, chunk_by_parts, chunked_by};
+ghost use Rattle.fallible_itertools_adapters.specs.ChunkBy.{MadeGroup, chunk_by_contract, chunk_by_parts, chunk_by_plan, chunk_by_stops, chunked_by, puts_by_key, takes_key};
 ghost use Rattle.fallible_itertools_adapters.specs.Chunks.{chunked, chunks_contract, chunks_parts};
 ghost use Rattle.fallible_itertools_adapters.specs.Coalesce as coalesce;
 ghost use Rattle.fallible_itertools_consumers.specs.CmpBy as comparing;
@@ -2700,7 +2700,7 @@ pub trait FallibleItertools: FallibleIterator {
         Self::Item: Drop,
         Self::Error: Drop + From<AllocError>,
         requires { 0 < n }
-        ensures parts { chunks_parts result ≡ (self, ((n, None), None)) }
+        ensures parts { chunks_parts result ≡ (self, (((n, None), tt), None)) }
         ensures lists { (l : List (Result Self.Item Self.Error))
             → list.Lists Self.contract.steps self l
             → ListsMade (λ xs v. vec_items v ≡ xs)
@@ -2735,7 +2735,10 @@ pub trait FallibleItertools: FallibleIterator {
         Self::Error: Drop + From<AllocError>,
         requires callable { IsCallable (call_by_reference F.FnMut) (takes_by_reference F.FnMut)
             (Self.contract.may_give self) key }
-        ensures parts { chunk_by_parts result ≡ (self, ((key, None), None)) }
+        ensures parts { chunk_by_parts result ≡ (self, ((None, key), None)) }
+        ensures callable { plan_can (puts_by_key Self.Error.from_gives K.eq F.FnMut)
+            (chunk_by_plan K.eq) chunk_by_stops (takes_key F.FnMut) (MayMeet Self.contract self)
+            (None, key) }
         ensures lists { (h : Self.Item → Result K Self.Error)
             → (l : List (Result Self.Item Self.Error))
             → list.Acts (call_by_reference F.FnMut) key h

@@ -3,13 +3,13 @@ use Rattle.std.specs.Prelude.{◌≡◌, ℕ, ◌+◌, ◌-◌, ◌^◌, min, Bo
 use Rattle.std.proofs.Common.{refl, sym, ap, arith, length-append, ◌∙◌}
 use Rattle.fallible_iterator.specs.Lists.{mapped}
 use Rattle.fallible_itertools_adapters.specs.ChunkBy.{chunked_by}
-use Rattle.fallible_itertools_adapters.specs.Dedup.{dedup_plan, dedup_stops, deduped, unless_same}
-use Rattle.fallible_itertools_adapters.specs.DedupBy.{deduped_by, deduped_by_from, same_before}
-use Rattle.fallible_itertools_adapters.specs.Staged.{as_function, made_first, plan_does, staged}
-use Rattle.fallible_itertools_adapters.specs.Staging.{stop_comes}
+use Rattle.fallible_itertools_adapters.specs.Dedup.{deduped}
+use Rattle.fallible_itertools_adapters.specs.DedupBy.{deduped_by}
 use Rattle.fallible_itertools_adapters.specs.RunCounts.{deduped_by_with_count, deduped_with_count, first_once_more, one_more}
 use Rattle.fallible_itertools_adapters.proofs.Lemmas.ChunkedBy.{group_or, grouped_at_next, grouped_from}
-use Rattle.fallible_itertools_adapters.proofs.Lemmas.RunCounts.{counted_first, counted_from, counted_before_failure, counted_of_failed, counted_of_failure, counted_of_none, counted_of_one, counted_of_other, counted_of_same}
+use Rattle.fallible_itertools_adapters.proofs.Lemmas.Dedup.{deduped_before_failure, deduped_of_equal, deduped_of_failure, deduped_of_none, deduped_of_one, deduped_of_others}
+use Rattle.fallible_itertools_adapters.proofs.Lemmas.DedupBy.{deduped_by_before_failure, deduped_by_of_failure, deduped_by_of_none, deduped_by_of_one, deduped_by_of_others, deduped_by_of_same, deduped_by_where_failed}
+use Rattle.fallible_itertools_adapters.proofs.Lemmas.RunCounts.{counted_before_failure, counted_first, counted_from, counted_of_failed, counted_of_failure, counted_of_none, counted_of_one, counted_of_other, counted_of_same}
 
 -- ---- without the numbers
 
@@ -69,37 +69,29 @@ module _ {A E : Type 0} (h : A → A → Result Bool E) where
 
 module _ {A E : Type 0} (h : A → A → Result Bool E) where
   deduped_by_lists_firsts : ListsFirsts h (deduped_by h)
-  unfolding deduped_by deduped_by_from
   deduped_by_lists_firsts = record {
-    none = refl;
-    one = λ x. refl;
-    same = λ y x l is. ap (λ v. same_before y x v (λ held. deduped_by_from h held l)) is;
-    other = λ y x l is. ap (λ v. same_before y x v (λ held. deduped_by_from h held l)) is;
-    failed = λ y x e l is. ap (λ v. same_before y x v (λ held. deduped_by_from h held l)) is;
-    failure = λ e l. refl;
-    before_failure = λ y e l. refl;
+    none = deduped_by_of_none h;
+    one = deduped_by_of_one h;
+    same = deduped_by_of_same h;
+    other = deduped_by_of_others h;
+    failed = deduped_by_where_failed h;
+    failure = deduped_by_of_failure h;
+    before_failure = deduped_by_before_failure h;
   }
 
   pub items_of_deduped_by_with_count : (l : List (Result A E)) → mapped (λ p. Ok p.1) (deduped_by_with_count h l) ≡ deduped_by h l
   items_of_deduped_by_with_count l = items_of_counted h (deduped_by h) deduped_by_lists_firsts l
 
 module _ {A E : Type 0} (eq : A → A → Bool) where
-  abbrev firsts_from : Option A → List (Result A E) → List (Result A E)
-  firsts_from held l = staged stop_comes (plan_does (as_function (λ u. u)) (dedup_plan eq) dedup_stops) (held, tt) l
-
-  firsts_of_two : (y x : A) (b : Bool) (l : List (Result A E)) → eq y x ≡ b → firsts_from (Some y) (Ok x ∷ l) ≡ made_first stop_comes (unless_same {E = E} y x b).0 (firsts_from (unless_same {E = E} y x b).1 l)
-  firsts_of_two y x b l is = ap (λ c. made_first stop_comes (unless_same {E = E} y x c).0 (firsts_from (unless_same {E = E} y x c).1 l)) is
-
   deduped_lists_firsts : ListsFirsts {E = E} (λ y x. Ok (eq y x)) (deduped eq)
-  unfolding deduped
   deduped_lists_firsts = record {
-    none = refl;
-    one = λ x. refl;
-    same = λ y x l is. firsts_of_two y x true l cc;
-    other = λ y x l is. firsts_of_two y x false l cc;
+    none = deduped_of_none E eq;
+    one = deduped_of_one E eq;
+    same = λ y x l is. deduped_of_equal E eq y x l cc;
+    other = λ y x l is. deduped_of_others E eq y x l cc;
     failed = λ y x e l is. absurd cc;
-    failure = λ e l. refl;
-    before_failure = λ y e l. refl;
+    failure = deduped_of_failure E eq;
+    before_failure = deduped_before_failure E eq;
   }
 
   pub items_of_deduped_with_count : (l : List (Result A E)) → mapped (λ p. Ok p.1) (deduped_with_count eq l) ≡ deduped eq l
@@ -151,7 +143,7 @@ module _ {A E : Type 0} (eq : A → A → Bool) where
   counted_from_is_groups_counted None [] = refl
   counted_from_is_groups_counted (Some g) [] = refl
   counted_from_is_groups_counted None (Ok x ∷ l) = counted_from_one_is_groups_counted x l (λ a. counted_from_is_groups_counted a l)
-  counted_from_is_groups_counted (Some g) (Ok x ∷ l) = counted_first_is_groups_counted g x (eq g.0 x) l (λ a. counted_from_is_groups_counted a l) ∙ sym (ap groups_counted (grouped_at_next eq (λ x. Ok x) g x x l))
+  counted_from_is_groups_counted (Some g) (Ok x ∷ l) = counted_first_is_groups_counted g x (eq g.0 x) l (λ a. counted_from_is_groups_counted a l) ∙ ap groups_counted (sym (grouped_at_next eq (λ x. Ok x) g x x l))
   counted_from_is_groups_counted None (Err e ∷ l) = ap (λ k. Err e ∷ k) (counted_from_is_groups_counted None l)
   counted_from_is_groups_counted (Some g) (Err e ∷ l) = ap (λ k. Ok (group_counted g) ∷ Err e ∷ k) (counted_from_is_groups_counted None l)
 

@@ -1,6 +1,6 @@
 -- What `DedupWithCount` and `DedupByWithCount` list, and their hints.
 use Rattle.std.specs.Prelude.{◌≡◌, ℕ, Bool, true, false, ⊤, Option, Some, None, Result, Ok, Err, List, [], ◌∷◌, ◌++◌}
-use Rattle.std.proofs.Common.{refl, ap, subst, inl, inr, arith, ◌∙◌}
+use Rattle.std.proofs.Common.{refl, ap, subst, arith, ◌∙◌}
 use Rattle.std.specs.Fn.{Mut}
 use Rattle.std.specs.Borrow.{Bor}
 use Rattle.fallible_iterator.specs.Contract.{Contract, parts_as}
@@ -17,17 +17,12 @@ use Rattle.fallible_itertools_adapters.specs.Plan.{bounded, call_on_pair, plan_h
 use Rattle.fallible_itertools_adapters.specs.RunCounts.{count_plan, count_stops, counted_by, deduped_by_with_count, deduped_with_count, first_once_more, one_more}
 use Rattle.fallible_itertools_adapters.specs.Staged.{as_function, calls_function, made_first, plan_does, staged}
 use Rattle.fallible_itertools_adapters.specs.Staging.{Made, stage_contract, stop_comes}
-use Rattle.fallible_itertools_adapters.proofs.Lemmas.BeforeStop.{HeldWhereNone, NoEnd, hints_where_one_held, parted_by_failure}
+use Rattle.fallible_itertools_adapters.proofs.Lemmas.BeforeStop.{HeldWhereNone, NoEnd, end_before_stop, hints_where_one_held, parted_by_failure}
 use Rattle.fallible_itertools_adapters.proofs.Lemmas.Staged.{gives_plan}
-use Rattle.fallible_itertools_adapters.proofs.Lemmas.StagingLists.{EndMade}
 use Rattle.fallible_itertools_adapters.specs.declared.dedup_by_with_count.DedupByWithCount.{DedupByWithCount}
 use Rattle.fallible_itertools_adapters.specs.declared.dedup_with_count.DedupWithCount.{DedupWithCount}
 
 module _ (A E : Type 0) where
-  pub count_stops_end : (held : Option (ℕ × A)) → EndMade (stop_comes {E = E}) (count_stops held None).0
-  count_stops_end None = inl refl
-  count_stops_end (Some p) = inr refl
-
   counted_no_end : (p : ℕ × A) (x : A) (v : Result Bool E) → NoEnd (counted_by p x v).0
   counted_no_end p x (Ok true) = tt
   counted_no_end p x (Ok false) = tt
@@ -115,12 +110,12 @@ deduped_with_count_in_parts eq a e b = counted_in_parts (λ y x. Ok (eq y x)) a 
 
 pub lists_deduped_with_count : {S A E : Type 0} {it : S} (m : Contract S A E) (eq : A → A → Bool) (s : DedupWithCount S A E) (l : List (Result A E)) → dedup_with_count_parts s ≡ (it, ((None, tt), None)) → Lists m.steps it l → Lists (parts_as dedup_with_count_parts (dedup_with_count_contract eq m)).steps s (deduped_with_count eq l)
 unfolding deduped_with_count deduped_by_with_count
-lists_deduped_with_count {A = A} {E = E} {it = it} m eq s l parts i = lists_seen dedup_with_count_parts (dedup_with_count_contract eq m).steps s parts refl (gives_plan m.steps stop_comes (calls_function (are_equal eq)) count_plan count_stops (as_function (are_equal eq)) (λ f z. ⊤) (λ f z q v g at called. (called, tt)) (count_stops_end A E) l it None tt tt tt i.runs)
+lists_deduped_with_count {E = E} {it = it} m eq s l parts i = lists_seen dedup_with_count_parts (dedup_with_count_contract eq m).steps s parts refl (gives_plan m.steps stop_comes (calls_function (are_equal eq)) count_plan count_stops (as_function (are_equal eq)) (λ f z. ⊤) (λ f z q v g at called. (called, tt)) (end_before_stop E) l it None tt tt tt i.runs)
 
 pub lists_deduped_by_with_count : {S A F E : Type 0} {it : S} (m : Contract S A E) (g : Mut F (Bor A × (Bor A × Unit {0})) (Result Bool E)) (s : DedupByWithCount S F A E) (f : F) (h : A → A → Result Bool E) (l : List (Result A E)) → dedup_by_with_count_parts s ≡ (it, ((None, f), None)) → ActsWith (call_at_two g) f h → Lists m.steps it l
     → Lists (parts_as dedup_by_with_count_parts (dedup_by_with_count_contract g m)).steps s (deduped_by_with_count h l)
 unfolding deduped_by_with_count
-lists_deduped_by_with_count {A = A} {E = E} {it = it} m g s f h l parts acts i = lists_seen dedup_by_with_count_parts (dedup_by_with_count_contract g m).steps s parts refl (gives_plan m.steps stop_comes (call_on_pair (call_at_two g)) count_plan count_stops (as_function (λ both. h both.0 both.1)) (λ p z. p ≡ f) (λ p z q v k is called. let d = acts q.0 q.1 v k (subst (λ c. call_at_two g c q.0 q.1 v k) is called) in (d.1, d.0)) (count_stops_end A E) l it None f tt refl i.runs)
+lists_deduped_by_with_count {E = E} {it = it} m g s f h l parts acts i = lists_seen dedup_by_with_count_parts (dedup_by_with_count_contract g m).steps s parts refl (gives_plan m.steps stop_comes (call_on_pair (call_at_two g)) count_plan count_stops (as_function (λ both. h both.0 both.1)) (λ p z. p ≡ f) (λ p z q v k is called. let d = acts q.0 q.1 v k (subst (λ c. call_at_two g c q.0 q.1 v k) is called) in (d.1, d.0)) (end_before_stop E) l it None f tt refl i.runs)
 
 -- ---- the hint
 
@@ -135,4 +130,4 @@ module _ {F A E : Type 0} (call : F → A × A → Result Bool E → F → Type 
   held_where_none (Some p) x = λ v. counted_held_where_none p x v
 
   pub hints_counted : {V S : Type 0} (view : V → S × ((Option (ℕ × A) × F) × Option (Option E))) (m : Contract S A E) (can : (Answered A E → Type 0) → Option (ℕ × A) × F → Type 0) → HintsWhereHeld (parts_as view (stage_contract (bounded m) stop_comes (plan_meets call count_plan count_stops) can 1 (λ p. held_one p.0) (plan_hint (bounded m) (held_hints held_one)))) (λ s. (view s).1.1) m (λ s. (view s).0)
-  hints_counted view m can = let w = hints_where_one_held (λ held. held) (λ held. None) held_one (λ held. refl) call count_plan (count_weighs E) (count_no_end A E) held_where_none view (bounded m) can 1 in record { none_due = w.none_due; due = w.due; failure_due = w.failure_due }
+  hints_counted view m can = let w = hints_where_one_held E (λ held. held) (λ held. None) held_one (λ held. refl) call count_plan (count_weighs E) (count_no_end A E) held_where_none view (bounded m) can 1 in record { none_due = w.none_due; due = w.due; failure_due = w.failure_due }

@@ -1,6 +1,6 @@
 -- What `WithPosition` lists, its draws, and its hint: every item of the source is yielded, and so is the one that is held.
 use Rattle.std.specs.Prelude.{◌≡◌, ℕ, suc, ◌+◌, ◌-◌, ◌≤◌, ◌^◌, min, ⊤, Bool, true, false, Option, Some, None, Result, Ok, Err, List, [], ◌∷◌, ◌++◌, map}
-use Rattle.std.proofs.Common.{refl, sym, ap, subst, arith, inl, inr}
+use Rattle.std.proofs.Common.{refl, sym, ap, subst, arith}
 use Rattle.fallible_iterator.specs.Traces.{Answered, item}
 use Rattle.fallible_iterator.specs.Contract.{Contract, parts_as}
 use Rattle.fallible_iterator.specs.Hints.{fitting_sum}
@@ -13,11 +13,10 @@ use Rattle.fallible_itertools_adapters.specs.Plan.{calls_nothing, plan_meets}
 use Rattle.fallible_itertools_adapters.specs.Staged.{as_function, plan_does, staged}
 use Rattle.fallible_itertools_adapters.specs.Staging.{EndsInStop, items_of, made_total, passes_over, stage_step, stop_comes, yields}
 use Rattle.fallible_itertools_adapters.specs.WithPosition.{position_plan, position_stops, positioned, positioned_last, with_position_contract, with_position_due, with_position_parts, with_position_source}
-use Rattle.fallible_itertools_adapters.proofs.Lemmas.BeforeStop.{NoEnd, hints_where_held, parted_by_failure}
+use Rattle.fallible_itertools_adapters.proofs.Lemmas.BeforeStop.{NoEnd, end_before_stop, hints_where_held, parted_by_failure}
 use Rattle.fallible_itertools_adapters.proofs.Lemmas.PlanHints.{PlanMakes}
 use Rattle.fallible_itertools_adapters.proofs.Lemmas.Staged.{gives_plan}
 use Rattle.fallible_itertools_adapters.proofs.Lemmas.StagingHints.{MadeFew}
-use Rattle.fallible_itertools_adapters.proofs.Lemmas.StagingLists.{EndMade}
 use Rattle.fallible_itertools_adapters.specs.declared.with_position.Position.{Position}
 use Rattle.fallible_itertools_adapters.specs.declared.with_position.Position.TheVariants.{First, Middle, Last, Only}
 use Rattle.fallible_itertools_adapters.specs.declared.with_position.WithPosition.{WithPosition}
@@ -25,10 +24,6 @@ use Rattle.fallible_itertools_adapters.specs.declared.with_position.WithPosition
 -- ---- what it lists
 
 module _ (A E : Type 0) where
-  position_stops_end : (held : Option (Bool × A)) → EndMade (stop_comes {E = E}) (position_stops held None).0
-  position_stops_end None = inl refl
-  position_stops_end (Some p) = inr refl
-
   position_no_end : (held : Option (Bool × A)) (x : A) → Always (λ t. NoEnd {E = E} t.0) (position_plan held x)
   position_no_end None x = tt
   position_no_end (Some p) x = tt
@@ -68,7 +63,7 @@ module _ {A E : Type 0} where
 
 pub lists_positioned : {S A E : Type 0} {it : S} (m : Contract S A E) (s : WithPosition S A E) (l : List (Result A E)) → with_position_parts s ≡ (it, ((None, tt), None)) → Lists m.steps it l → Lists (parts_as with_position_parts (with_position_contract m)).steps s (positioned l)
 unfolding positioned
-lists_positioned {A = A} {E = E} {it = it} m s l parts i = lists_seen with_position_parts (with_position_contract m).steps s parts refl (gives_plan m.steps stop_comes calls_nothing position_plan position_stops (as_function (λ u. u)) (λ f z. ⊤) (λ f z q v g at called. absurd called) (position_stops_end A E) l it None tt tt tt i.runs)
+lists_positioned {E = E} {it = it} m s l parts i = lists_seen with_position_parts (with_position_contract m).steps s parts refl (gives_plan m.steps stop_comes calls_nothing position_plan position_stops (as_function (λ u. u)) (λ f z. ⊤) (λ f z q v g at called. absurd called) (λ held. end_before_stop E (positioned_last held)) l it None tt tt tt i.runs)
 
 -- ---- its draws
 
@@ -84,8 +79,8 @@ module _ {S A E : Type 0} (steps : S → Answered A E → S → Type 0) where
   step_where_none {s = s} {z = z} {due = due} {r = r} {v = v} is none w = subst (λ (h : Option (Bool × A)). StepsOfWithPosition (s, ((h, z), due)) r v) (sym is) (subst (λ (d : Option (Option E)). StepsOfWithPosition (s, ((None, z), d)) r v) none w)
 
   -- the first item is held
-  pub position_step_after_first_item : {s u : S} {held : Option (Bool × A)} {z : Unit {0}} {due after : Option (Option E)} {r : Answered (Position × A) E} {v : StateOfWithPosition} (x : A) → held ≡ None → None ≡ due → after ≡ None → steps s (item x) u → StepsOfWithPosition (u, ((Some (false, x), z), after)) r v → StepsOfWithPosition (s, ((held, z), due)) r v
-  position_step_after_first_item {u = u} {z = z} {r = r} {v = v} x is none undue step w = step_where_none is none (passes_over (item x) step ((refl, refl), refl) (subst (λ (d : Option (Option E)). StepsOfWithPosition (u, ((Some (false, x), z), d)) r v) undue w))
+  pub position_step_after_first_item : {s u : S} {held : Option (Bool × A)} {z : Unit {0}} {due after : Option (Option E)} (x : A) (r : Answered (Position × A) E) (v : StateOfWithPosition) → held ≡ None → None ≡ due → after ≡ None → steps s (item x) u → StepsOfWithPosition (u, ((Some (false, x), z), after)) r v → StepsOfWithPosition (s, ((held, z), due)) r v
+  position_step_after_first_item {u = u} {z = z} x r v is none undue step w = step_where_none is none (passes_over (item x) step ((refl, refl), refl) (subst (λ (d : Option (Option E)). StepsOfWithPosition (u, ((Some (false, x), z), d)) r v) undue w))
 
   pub position_step_of_end : {s u : S} {held : Option (Bool × A)} {z : Unit {0}} {due after : Option (Option E)} → held ≡ None → None ≡ due → after ≡ None → steps s (Ok None) u → StepsOfWithPosition (s, ((held, z), due)) (Ok None) (u, ((held, z), after))
   position_step_of_end is none undue step = step_where_none is none (yields (Ok None) step ((ap (λ d. Some (Ok None, d)) undue, is), refl))

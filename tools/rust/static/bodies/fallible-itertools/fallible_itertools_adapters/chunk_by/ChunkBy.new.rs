@@ -1,9 +1,9 @@
 // changed: no allocator is passed
-// proved: f0c7a86c
+// proved: f7095deb
 pub fn new(it: I, key: F) -> ChunkBy<I, K, F>
 {
     ChunkBy {
         it,
-        stage: ((key, None), None),
+        stage: ((None, key), None),
     }
 }

@@ -1,12 +1,13 @@
 // changed: no allocator is passed
-// proved: fb350dbb
+// proved: 23466efb
 fn next(&mut self) -> Result<Option<Vec<I::Item>>, I::Error> {
     match self.stage.1.take() {
-        Some(Some(e)) => Err(e),
-        Some(None) => Ok(None),
+        Some(stop) => stopped(stop),
         None => {
-            let adapter = ChunksHold;
-            filled(&mut self.it, &mut self.stage.0, &mut self.stage.1, &adapter)
+            let adapter = ChunksStage;
+            let (answer, due) = filled(&mut self.it, &mut self.stage.0, &adapter);
+            put_due(&mut self.stage.1, due);
+            answer
         }
     }
 }
