@@ -55,7 +55,6 @@ pub mod Unique
 pub mod UniqueBy
 pub mod UniqueByOf
 pub mod UniqueOf
-pub mod WindowHints
 pub mod UnlessRefused
 pub mod WithPosition
 pub mod ZipEq

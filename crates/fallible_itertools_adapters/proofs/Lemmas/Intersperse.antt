@@ -16,10 +16,10 @@ use Rattle.fallible_itertools_adapters.specs.IntersperseWith.{CallsMakeShown, in
 use Rattle.fallible_itertools_adapters.specs.Laws.Plan.{Always}
 use Rattle.fallible_itertools_adapters.specs.Plan.{none_held, passes, plan_can, plan_hint, plan_meets}
 use Rattle.fallible_itertools_adapters.specs.Staged.{before_rest, plan_does, staged}
-use Rattle.fallible_itertools_adapters.specs.Staging.{EndsInStop, due_total, item_comes, items_of, made_total, stage_contract}
+use Rattle.fallible_itertools_adapters.specs.Staging.{due_total, item_comes, items_of, made_total, stage_contract}
 use Rattle.fallible_itertools_adapters.proofs.Lemmas.Plan.{CallsOnAsked, plan_can_where_callable}
-use Rattle.fallible_itertools_adapters.proofs.Lemmas.PlanHints.{PlanMakes, hints_as_sound_plan}
-use Rattle.fallible_itertools_adapters.proofs.Lemmas.Staged.{MakesSame, gives_plan, gives_plan_until_refused}
+use Rattle.fallible_itertools_adapters.proofs.Lemmas.PlanHints.{PlanMakes, hints_as_sound_plan, passes_at_most}
+use Rattle.fallible_itertools_adapters.proofs.Lemmas.Staged.{MakesSame, gives_plan, gives_plan_until_refused, made_as_itself}
 use Rattle.fallible_itertools_adapters.proofs.Lemmas.StagingHints.{DueFew, MadeFew}
 use Rattle.fallible_itertools_adapters.proofs.Lemmas.StagingLists.{IsAnswerMade}
 use Rattle.std.specs.declared.alloc.AllocError.{AllocError}
@@ -103,14 +103,14 @@ module _ {A E : Type 0} (is_clone : A → A → Type 0) (is_infallible : A → T
   answer_made_of_result (Err e) r m = m
 
   module _ {S : Type 0} (steps : S → Answered A E → S → Type 0) (itself : (x : A) → is_clone x x) (z : A) where
-    clones_make_same : (came : Bool) (x : A) → MakesSame steps item_comes Clones intersperse_plan passes next_separator is_clone itself from (AtSeparator z) SameOf RefusedClone (clone_or_refusal z) (intersperse_plan came x)
-    clones_make_same false x = tt
+    clones_make_same : (came : Bool) (x : A) → MakesSame steps item_comes Clones intersperse_plan passes next_separator is_clone from (AtSeparator z) SameOf RefusedClone (clone_or_refusal z) (intersperse_plan came x)
+    clones_make_same false x = (itself x, refl)
     clones_make_same true x = ((λ v q. q), (λ w v same. ((answer_made_of_result w (result_answer v) same, refl), refl)))
 
   pub lists_interspersed_until_refused : {S : Type 0} {it : S} (z : A) → ((x : A) → is_clone x x) → (m : Contract S A E) (s : Intersperse S A E) (l : List (Result A E)) → intersperse_parts s ≡ (it, ((false, z), None)) → Lists m.steps it l → ListsUntilRefused is_clone (parts_as intersperse_parts (intersperse_contract is_clone is_infallible from m)).steps from s (interspersed z l)
   unfolding interspersed interspersed_by
   lists_interspersed_until_refused {it = it} z itself m s l parts i = lists_until_refused_seen is_clone from intersperse_parts (intersperse_contract is_clone is_infallible from m).steps s parts refl
-      (gives_plan_until_refused m.steps item_comes Clones intersperse_plan passes next_separator is_clone itself from (AtSeparator z) SameOf RefusedClone (clone_or_refusal z) (clones_make_same m.steps itself z) (λ came. inl refl) (λ came h y k r no. interspersed_is_never_nil came h y k) l it false z (λ n. Ok z) (refl, refl) i.runs)
+      (gives_plan_until_refused m.steps item_comes Clones intersperse_plan passes next_separator is_clone from (AtSeparator z) SameOf RefusedClone (clone_or_refusal z) (clones_make_same m.steps itself z) (λ came stop. made_as_itself is_clone itself (passes came stop).0) (λ x. itself x) (λ came. inl refl) (λ came f h y k r due q w no. interspersed_is_never_nil came h y k) l it false z (λ n. Ok z) (refl, refl) i.runs)
 
 -- ---- `IntersperseWith`
 
@@ -172,15 +172,11 @@ module _ (A E : Type 0) where
   intersperse_no_fewer false x low = λ n after. omega (arith, after)
   intersperse_no_fewer true x low = λ v. separated_few x v low
 
-  stop_at_most : (came : Bool) (stop : Option E) → (made_total item_comes items_of (passes {B = A} came stop).0 ≤ all_parted came 0) × EndsInStop item_comes (passes {B = A} came stop).0
-  stop_at_most came None = (omega arith, tt)
-  stop_at_most came (Some e) = (omega arith, tt)
-
   module _ {F : Type 0} (call : F → Unit {0} → Result A E → F → Type 0) where
     intersperse_makes : PlanMakes item_comes call intersperse_plan passes all_parted (λ came low n. all_parted came low ≤ n)
     intersperse_makes = record {
       at_most = intersperse_at_most;
-      at_most_at_stop = stop_at_most;
+      at_most_at_stop = λ h stop. passes_at_most item_comes _ h stop;
       no_fewer = intersperse_no_fewer;
       no_fewer_at_end = λ came. omega arith;
       no_fewer_at_failure = λ came e low. tt;

@@ -1,14 +1,19 @@
 -- The hint of an adapter by functions, by how many answers each plan makes.
 use Rattle.std.specs.Prelude.{◌≡◌, ℕ, suc, ◌+◌, ◌-◌, ◌≤◌, IfSome, Option, Some, None, Ok, Err}
-use Rattle.std.proofs.Common.{subst}
+use Rattle.std.proofs.Common.{arith, subst}
 use Rattle.fallible_iterator.specs.Traces.{Answered}
 use Rattle.fallible_iterator.specs.Contract.{Contract, parts_as}
 use Rattle.fallible_iterator.specs.SoundHints.{Brackets, HintsAsSoundAs}
 use Rattle.fallible_iterator.proofs.Lemmas.Hints.Drawn.{as_sound_of_brackets, brackets_of_brackets_at_view}
 use Rattle.fallible_itertools_adapters.specs.Laws.Plan.{Always, always_of_follows}
-use Rattle.fallible_itertools_adapters.specs.Plan.{HintBy, HintPlan, Makes, Making, Plan, calls, plan_hint, plan_meets}
+use Rattle.fallible_itertools_adapters.specs.Plan.{HintBy, HintPlan, Makes, Making, Plan, calls, passes, plan_hint, plan_meets}
 use Rattle.fallible_itertools_adapters.specs.Staging.{EndsInStop, IsStop, Made, due_total, items_of, made_total, stage_contract, stage_step}
 use Rattle.fallible_itertools_adapters.proofs.Lemmas.StagingHints.{DueFew, MadeFew, MakesAtMost, MakesNoFewer, bounds_above_staged, bounds_below_staged}
+
+-- a stop that passes makes no item
+pub passes_at_most : {H B L E : Type 0} (comes : L → Option (Answered B E)) (most : ℕ) (h : H) (stop : Option E) → (made_total comes items_of (passes {L = L} h stop).0 ≤ most) × EndsInStop comes (passes {L = L} h stop).0
+passes_at_most comes most h None = (omega arith, tt)
+passes_at_most comes most h (Some e) = (omega arith, tt)
 
 -- `most h n` bounds how many items come of n of the source where h is held; `Few h low n` holds of each number n of items before an end, if at least `low` come of the source.
 module _ {H F Q R X B L E : Type 0} (comes : L → Option (Answered B E)) (call : F → Q → R → F → Type 0) (plan : H → X → Plan Q R (Making H B L E)) (stops : H → Option E → Making H B L E) (most : H → ℕ → ℕ) (Few : H → ℕ → ℕ → Type 0) where

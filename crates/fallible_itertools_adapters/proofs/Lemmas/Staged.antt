@@ -12,12 +12,12 @@ use Rattle.fallible_itertools_adapters.proofs.Lemmas.StagingLists.{EndMade, IsAn
 use Rattle.std.specs.declared.alloc.AllocError.{AllocError}
 
 module _ {B E : Type 0} (of : B → B → Type 0) (itself : (y : B) → of y y) where
-  answer_made_of_itself : (a : Answered B E) → IsAnswerMade of a a
+  pub answer_made_of_itself : (a : Answered B E) → IsAnswerMade of a a
   answer_made_of_itself (Ok (Some y)) = itself y
   answer_made_of_itself (Ok None) = refl
   answer_made_of_itself (Err e) = refl
 
-  made_as_itself : {L : Type 0} (m : Made B L E) → IsMadeAs of m m
+  pub made_as_itself : {L : Type 0} (m : Made B L E) → IsMadeAs of m m
   made_as_itself None = tt
   made_as_itself (Some (a, due)) = (answer_made_of_itself a, refl)
 
@@ -47,7 +47,7 @@ module _ {S F Z H Q R X B L E : Type 0} (steps : S → Answered X E → S → Ty
   abbrev list_of : H → Z → List (Result X E) → List (Result B E)
   list_of h z l = staged comes (plan_does acts plan stops) (h, z) l
 
-  module _ (of : B → B → Type 0) (itself : (y : B) → of y y) (from : AllocError → E → Type 0) (At : F → Z → Type 0) (Same : R → R → Type 0) (Refused : R → Type 0) (does : (f : F) (z : Z) (q : Q) (v : R) (g : F) → At f z → call f q v g → Refused v ⊎ (Same (acts z q).0 v × At g (acts z q).1)) where
+  module _ (of : B → B → Type 0) (from : AllocError → E → Type 0) (At : F → Z → Type 0) (Same : R → R → Type 0) (Refused : R → Type 0) (does : (f : F) (z : Z) (q : Q) (v : R) (g : F) → At f z → call f q v g → Refused v ⊎ (Same (acts z q).0 v × At g (acts z q).1)) where
     -- an allocation failure is what is made
     abbrev pub RefusalMade : Made B L E → Type 0
     RefusalMade None = ⊥
@@ -55,7 +55,7 @@ module _ {S F Z H Q R X B L E : Type 0} (steps : S → Answered X E → S → Ty
 
     -- what a plan makes of such results is the same
     abbrev pub MakesSame : Plan Q R (Making H B L E) → Type 0
-    MakesSame (makes t) = ⊤
+    MakesSame (makes t) = IsMadeAs of t.0 t.0
     MakesSame (calls q by) = ((v : R) → Refused v → RefusalMade (by v).0) × ((w v : R) → Same w v → IsMadeAs of (by w).0 (by v).0 × ((by v).1 ≡ (by w).1))
 
     abbrev AtState : H × F → H × Z → Type 0
@@ -68,17 +68,18 @@ module _ {S F Z H Q R X B L E : Type 0} (steps : S → Answered X E → S → Ty
     ActsOrRefused t m q = RefusalMade m ⊎ (AtState q t.1 × IsMadeAs of t.0 m)
 
     follows_acts : (t : Plan Q R (Making H B L E)) (f : F) (z : Z) (m : Made B L E) (q : H × F) → MakesSame t → At f z → Follows call t f m q.0 q.1 → ActsOrRefused (followed acts t z) m q
-    follows_acts (makes t) f z m q same at w = inr ((w.0.1, subst (λ g. At g z) (sym w.1) at), rw w.0.0 (made_as_itself of itself t.0))
+    follows_acts (makes t) f z m q same at w = inr ((w.0.1, subst (λ g. At g z) (sym w.1) at), rw w.0.0 same)
     follows_acts (calls q by) f z m p same at w = elim (does f z q w.0 p.1 at w.1) [
       | inl k ↦ inl (rw w.2.0 (same.0 w.0 k))
       | inr k ↦ (let s = same.1 (acts z q).0 w.0 k.0 in inr ((rw w.2.1 s.1, k.1), rw w.2.0 s.0))
     ]
 
-    module _ (agree : (h : H) (x : X) → MakesSame (plan h x)) (ends : (h : H) → EndMade comes (stops h None).0) (never_nil : (h : H) (z : Z) (y : Result X E) (l : List (Result X E)) (r : Answered B E) → AnswersRefusal from r → list_of h z (y ∷ l) ≡ [] → ⊥) where
+    module _ (agree : (h : H) (x : X) → MakesSame (plan h x)) (stop_agrees : (h : H) (stop : Option E) → IsMadeAs of (stops h stop).0 (stops h stop).0) (due_agrees : (later : L) → IsAnswerMade of (due_comes (comes later)) (due_comes (comes later))) (ends : (h : H) → EndMade comes (stops h None).0)
+        (never_nil : (h : H) (f : F) (z : Z) (y : Result X E) (l : List (Result X E)) (r : Answered B E) (due : Option L) (q : H × F) → plan_meets call plan stops (h, f) (result_answer y) (Some (r, due)) q → AnswersRefusal from r → list_of h z (y ∷ l) ≡ [] → ⊥) where
       acts_at : (h : H) (f : F) (z : Z) (a : Answered X E) (m : Made B L E) (q : H × F) → At f z → plan_meets call plan stops (h, f) a m q → ActsOrRefused (plan_does acts plan stops (h, z) a) m q
       acts_at h f z (Ok (Some x)) m q at w = follows_acts (plan h x) f z m q (agree h x) at w
-      acts_at h f z (Ok None) m q at w = inr ((w.0.1, subst (λ g. At g z) (sym w.1) at), rw w.0.0 (made_as_itself of itself (stops h None).0))
-      acts_at h f z (Err e) m q at w = inr ((w.0.1, subst (λ g. At g z) (sym w.1) at), rw w.0.0 (made_as_itself of itself (stops h (Some e)).0))
+      acts_at h f z (Ok None) m q at w = inr ((w.0.1, subst (λ g. At g z) (sym w.1) at), rw w.0.0 (stop_agrees h None))
+      acts_at h f z (Err e) m q at w = inr ((w.0.1, subst (λ g. At g z) (sym w.1) at), rw w.0.0 (stop_agrees h (Some e)))
 
       acts_where_at : (p q : H × F) (a : H × Z) (x : Answered X E) (m : Made B L E) → AtState p a → plan_meets call plan stops p x m q → ActsOrRefused (plan_does acts plan stops a x) m q
       acts_where_at p q a x m at w = acts_at a.0 p.1 a.1 x m q at.1 (subst (λ h. plan_meets call plan stops (h, p.1) x m q) at.0 w)
@@ -94,18 +95,18 @@ module _ {S F Z H Q R X B L E : Type 0} (steps : S → Answered X E → S → Ty
       ]
 
       acts_at_end : (p q : H × F) (a : H × Z) (m : Made B L E) → AtState p a → plan_meets call plan stops p end m q → EndMade comes (plan_does acts plan stops a end).0 × IsMadeAs of (plan_does acts plan stops a end).0 m
-      acts_at_end p q a m at w = (ends a.0, rw (w.0.0, at.0) (made_as_itself of itself (stops a.0 None).0))
+      acts_at_end p q a m at w = (ends a.0, rw (w.0.0, at.0) (stop_agrees a.0 None))
 
       pub gives_plan_until_refused : (l : List (Result X E)) (s : S) (h : H) (f : F) (z : Z) → At f z → AlwaysGives steps s l → GivesUntilRefused of PlanSteps from (s, ((h, f), None)) (list_of h z l)
       gives_plan_until_refused l s h f z at g = until_refused_within (λ p. p) steps comes (plan_meets call plan stops) PlanSteps (λ u r v w. w) of from (list_of h z l) (s, ((h, f), None))
-          (gives_staged_up_to_refusal steps comes (plan_meets call plan stops) of Refuses comes AtState (plan_does acts plan stops) (λ later. answer_made_of_itself of itself (due_comes (comes later))) acts_on_result acts_at_end (λ a y l r t w. never_nil a.0 a.1 y l r w) l s (h, f) (h, z) (refl, at) g)
+          (gives_staged_up_to_refusal steps comes (plan_meets call plan stops) of Refuses comes AtState (plan_does acts plan stops) due_agrees acts_on_result acts_at_end (λ p q a y l r due t at w k. never_nil a.0 p.1 a.1 y l r due q (subst (λ h. plan_meets call plan stops (h, p.1) (result_answer y) (Some (r, due)) q) at.0 w) k) l s (h, f) (h, z) (refl, at) g)
 
   -- where each call returns just what `acts` says
   module _ (At : F → Z → Type 0) (does : (f : F) (z : Z) (q : Q) (v : R) (g : F) → At f z → call f q v g → (v ≡ (acts z q).0) × At g (acts z q).1) (ends : (h : H) → EndMade comes (stops h None).0) where
-    makes_same : (t : Plan Q R (Making H B L E)) → MakesSame (λ z y. y ≡ z) (λ y. refl) (λ a e. ⊥) At (λ w v. v ≡ w) (λ v. ⊥) (λ f z q v g at w. inr (does f z q v g at w)) t
-    makes_same (makes t) = tt
+    makes_same : (t : Plan Q R (Making H B L E)) → MakesSame (λ z y. y ≡ z) (λ a e. ⊥) At (λ w v. v ≡ w) (λ v. ⊥) (λ f z q v g at w. inr (does f z q v g at w)) t
+    makes_same (makes t) = made_as_itself (λ z y. y ≡ z) (λ y. refl) t.0
     makes_same (calls q by) = ((λ v no. absurd no), (λ w v is. rw is (made_as_itself (λ z y. y ≡ z) (λ y. refl) (by w).0, refl)))
 
     pub gives_plan : (l : List (Result X E)) (s : S) (h : H) (f : F) (z : Z) → At f z → AlwaysGives steps s l → AlwaysGives PlanSteps (s, ((h, f), None)) (list_of h z l)
     gives_plan l s h f z at g = always_of_until_refused PlanSteps (λ a e. ⊥) (λ e r. r.1) (list_of h z l) (s, ((h, f), None))
-        (gives_plan_until_refused (λ z y. y ≡ z) (λ y. refl) (λ a e. ⊥) At (λ w v. v ≡ w) (λ v. ⊥) (λ f z q v g at w. inr (does f z q v g at w)) (λ h x. makes_same (plan h x)) ends (λ h z y l r no. absurd no.2.1) l s h f z at g)
+        (gives_plan_until_refused (λ z y. y ≡ z) (λ a e. ⊥) At (λ w v. v ≡ w) (λ v. ⊥) (λ f z q v g at w. inr (does f z q v g at w)) (λ h x. makes_same (plan h x)) (λ h stop. made_as_itself (λ z y. y ≡ z) (λ y. refl) (stops h stop).0) (λ later. answer_made_of_itself (λ z y. y ≡ z) (λ y. refl) (due_comes (comes later))) ends (λ h f z y l r due q w no. absurd no.2.1) l s h f z at g)

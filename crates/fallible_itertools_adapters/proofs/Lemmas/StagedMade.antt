@@ -91,4 +91,4 @@ module _ {F H K Q R V W X Y B E : Type 0} (call : F → Q → R → F → Type 0
 
       pub gives_made_plan : (l : List (Result X E)) (s : S) (h : H) (k : K) → At h k → AlwaysGives steps s l → GivesMade made (stage_step stop_comes (plan_meets call plan stops) steps) from (s, ((h, f), None)) (staged stop_comes does (k, tt) l)
       gives_made_plan l s h k at i = gives_made_within (λ p. p) steps stop_comes (plan_meets call plan stops) (stage_step stop_comes (plan_meets call plan stops) steps) (λ u r v w. w) made from (staged stop_comes does (k, tt) l) (s, ((h, f), None))
-          (gives_staged_up_to_refusal steps stop_comes (plan_meets call plan stops) made Refuses stop_comes AtState does (due_stop_made made) acts_on_result acts_at_end (λ a y l r t w. never_nil a.0 y l) l s (h, f) (k, tt) (refl, at) i)
+          (gives_staged_up_to_refusal steps stop_comes (plan_meets call plan stops) made Refuses stop_comes AtState does (due_stop_made made) acts_on_result acts_at_end (λ p q a y l r due t at w k. never_nil a.0 y l) l s (h, f) (k, tt) (refl, at) i)

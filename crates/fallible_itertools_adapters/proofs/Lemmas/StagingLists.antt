@@ -53,7 +53,7 @@ module _ {S P X Y B L E : Type 0} (steps : S → Answered X E → S → Type 0) 
       (due_made : (later : L) → IsAnswerMade made (due_comes (listed later)) (due_comes (comes later)))
       (acts : (p q : P) (a : Q) (y : Result X E) (m : Made B L E) → At p a → meets p (result_answer y) m q → RefusedAt q m ⊎ (At q (does a (result_answer y)).1 × IsMadeAs made (does a (result_answer y)).0 m))
       (ends : (p q : P) (a : Q) (m : Made B L E) → At p a → meets p end m q → EndMade listed (does a end).0 × IsMadeAs made (does a end).0 m)
-      (never_nil : (a : Q) (y : Result X E) (l : List (Result X E)) (r : Answered B E) (t : State) → Refuses r t → staged listed does a (y ∷ l) ≡ [] → ⊥) where
+      (never_nil : (p q : P) (a : Q) (y : Result X E) (l : List (Result X E)) (r : Answered B E) (due : Option L) (t : S) → At p a → meets p (result_answer y) (Some (r, due)) q → Refuses r (t, (q, due)) → staged listed does a (y ∷ l) ≡ [] → ⊥) where
     first_before : (a : Answered Y E) (r : Answered B E) (t : State) (rest : List (Result Y E)) → IsAnswerMade made a r → ((a ≡ end → ⊥) → GivesUpTo t rest) → IsFirst (before_rest a rest) r t
     first_before (Ok (Some z)) r t rest w g = inr (w, g (λ e. cc))
     first_before (Ok None) r t rest w g = w
@@ -91,7 +91,7 @@ module _ {S P X Y B L E : Type 0} (steps : S → Answered X E → S → Type 0) 
 
     first_of_staged_at_item : (y : Result X E) (l : List (Result X E)) (s t : S) (p : P) (a : Q) (r : Answered B E) (q : P × Option L) → At p a → AlwaysGives steps s (y ∷ l) → ((u : S) (h : P) → At h (does a (result_answer y)).1 → AlwaysGives steps u l → GivesUpTo (u, (h, None)) (staged listed does (does a (result_answer y)).1 l)) → DrawsUpTo comes meets steps s p r t q → IsFirst (staged listed does a (y ∷ l)) r (t, q)
     first_of_staged_at_item y l s t p a r _ at i then (yields {q = q} {due = due} x step called) = let k = i x t step in elim (acts p q a y (Some (r, due)) at (rw k.0 at called)) [
-      | inl w ↦ first_refused (staged listed does a (y ∷ l)) r (t, (q, due)) (w t) (never_nil a y l r (t, (q, due)) (w t))
+      | inl w ↦ first_refused (staged listed does a (y ∷ l)) r (t, (q, due)) (w t) (never_nil p q a y l r due t at (rw k.0 at called) (w t))
       | inr w ↦ first_made (does a (result_answer y)).0 r due t q _ w.1 (λ on. then t q w.0 k.1)
     ]
     first_of_staged_at_item y l s t p a r q at i then (passes_over {u = u} {h = h} x step called rest) = let k = i x u step in elim (acts p h a y None at (rw k.0 at called)) [

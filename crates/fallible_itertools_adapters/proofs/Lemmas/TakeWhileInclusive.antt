@@ -15,10 +15,10 @@ use Rattle.fallible_iterator.proofs.Lemmas.Hints.Drawn.{brackets_seen, brackets_
 use Rattle.fallible_itertools_adapters.specs.Laws.Staging.{parts_equal_where_made_equal}
 use Rattle.fallible_itertools_adapters.specs.Plan.{HintBy, none_held, passes, plan_can, plan_hint, plan_meets}
 use Rattle.fallible_itertools_adapters.specs.Staged.{as_function, made_first, plan_does, staged}
-use Rattle.fallible_itertools_adapters.specs.Staging.{DrawsUpTo, EndsInStop, Made, MayMeet, due_total, ends_come, items_of, made_total, passes_over, stage_contract, stage_step, yields}
+use Rattle.fallible_itertools_adapters.specs.Staging.{DrawsUpTo, Made, MayMeet, due_total, ends_come, items_of, made_total, passes_over, stage_contract, stage_step, yields}
 use Rattle.fallible_itertools_adapters.specs.TakeWhileInclusive.{inclusive_by, inclusive_contract, inclusive_hint, inclusive_parts, inclusive_plan, taken_while_inclusive}
 use Rattle.fallible_itertools_adapters.proofs.Lemmas.Plan.{plan_can_where_callable}
-use Rattle.fallible_itertools_adapters.proofs.Lemmas.PlanHints.{PlanMakes, hints_as_sound_plan}
+use Rattle.fallible_itertools_adapters.proofs.Lemmas.PlanHints.{PlanMakes, hints_as_sound_plan, passes_at_most}
 use Rattle.fallible_itertools_adapters.proofs.Lemmas.Staged.{ends_for_good_where_ends_due, gives_plan}
 use Rattle.fallible_itertools_adapters.proofs.Lemmas.StagingHints.{DueFew, MadeFew}
 use Rattle.fallible_itertools_adapters.specs.declared.take_while_inclusive.TakeWhileInclusive.{TakeWhileInclusive}
@@ -149,15 +149,11 @@ module _ (X E : Type 0) where
   inclusive_at_most x n (Ok false) = omega arith
   inclusive_at_most x n (Err e) = omega arith
 
-  stop_at_most : (u : Unit {0}) (stop : Option E) → (made_total ends_come items_of (passes {B = X} u stop).0 ≤ 0) × EndsInStop ends_come (passes {B = X} u stop).0
-  stop_at_most u None = (omega arith, tt)
-  stop_at_most u (Some e) = (omega arith, tt)
-
   module _ {F : Type 0} (call : F → X → Result Bool E → F → Type 0) where
     inclusive_makes : PlanMakes ends_come call inclusive_plan passes (λ u n. n) (λ u low n. min low 1 ≤ n)
     inclusive_makes = record {
       at_most = λ u x n v. inclusive_at_most x n v;
-      at_most_at_stop = stop_at_most;
+      at_most_at_stop = λ h stop. passes_at_most ends_come _ h stop;
       no_fewer = λ u x low v. inclusive_few x low v;
       no_fewer_at_end = λ u. omega arith;
       no_fewer_at_failure = λ u e low. tt;
