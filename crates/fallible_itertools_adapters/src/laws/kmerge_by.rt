@@ -1,31 +1,42 @@
 // The laws of `KMergeBy` and of `KMerge`.
-ghost use Rattle.std.specs.Prelude.{◌≡◌, Bool, List, Option, Result, false, not};
+ghost use Rattle.std.specs.Cmp.{IsStrictWeakOrder};
+ghost use Rattle.std.specs.Prelude.{◌≡◌, Bool, List, Ok, Option, Result, false, not};
 ghost use Rattle.std.specs.declared.cmp.Ordering.{Ordering};
 ghost use Rattle.fallible_iterator.specs.Comparing.{reads_le, reads_lt};
 ghost use Rattle.fallible_itertools_adapters.specs.Adjacent.{AdjacentItems, LetsLessFirst};
 ghost use Rattle.fallible_itertools_adapters.specs.KMerge.{kmerged_in_order};
-ghost use Rattle.fallible_itertools_adapters.specs.KMergeBy.{EachSource, kmerged};
+ghost use Rattle.fallible_itertools_adapters.specs.KMergeBy.{LeastFirst, kmerged};
+ghost use Rattle.fallible_itertools_adapters.specs.MergeTree.{Each};
 ghost use Rattle.fallible_iterator.specs.SoundHints.{SoundHints};
 
 use crate::kmerge::KMerge;
 use crate::kmerge_by::KMergeBy;
 use fallible_iterator::FallibleIterator;
 
-/// Between failures no item of the merged list is less than the one before it, if so it is of each list, and the closure never lets an item go first than which the other is less.
+/// Between failures no item of the merged list is less than the one before it, if so it is of each list, and the closure never lets an item go first than which the other is less. If the closure never fails and lets the first of two items go first unless the second is less, the merged list takes the first elements of the lists one at a time (`LeastFirst`): the first failure among them, and if there is none the least item, of equal ones that of the earliest list. Only one list does so.
 pub fn law_kmerged<T, E>()
-    ensures { (lt : T → T → Bool) (h : T → T → Result Bool E) → LetsLessFirst lt h
-        → (ls : List (List (Result T E)))
-        → EachSource (AdjacentItems (λ x y. lt y x ≡ false)) ls
+    ensures adjacent { (lt : T → T → Bool) (h : T → T → Result Bool E) → LetsLessFirst lt h
+        → (ls : List (List (Result T E))) → Each (AdjacentItems (λ x y. lt y x ≡ false)) ls
         → AdjacentItems (λ x y. lt y x ≡ false) (kmerged h ls) }
+    ensures least { (lt : T → T → Bool) (goes : T → T → Bool) → IsStrictWeakOrder lt
+        → ((x : T) (y : T) → goes x y ≡ not (lt y x)) → (ls : List (List (Result T E)))
+        → LeastFirst lt ls (kmerged (λ x y. Ok (goes x y)) ls) }
+    ensures only { (lt : T → T → Bool) (ls : List (List (Result T E))) (k : List (Result T E))
+        (l : List (Result T E)) → LeastFirst lt ls k → LeastFirst lt ls l → k ≡ l }
 {}
 
-/// Between failures no item of the merged list is less than the one before it, if so it is of each list, where the order is one in which any two items compare.
+/// Between failures no item of the merged list is less than the one before it, if so it is of each list, where the order is one in which any two items compare. If they also compare as a strict weak order does, the least item comes first, as `law_kmerged` says.
 pub fn law_kmerged_in_order<T, E>()
-    ensures { (order : T → T → Option Ordering)
+    ensures adjacent { (order : T → T → Option Ordering)
         → ((x : T) (y : T) → reads_le (order x y) ≡ not (reads_lt (order y x)))
         → (ls : List (List (Result T E)))
-        → EachSource (AdjacentItems (λ x y. reads_lt (order y x) ≡ false)) ls
+        → Each (AdjacentItems (λ x y. reads_lt (order y x) ≡ false)) ls
         → AdjacentItems (λ x y. reads_lt (order y x) ≡ false) (kmerged_in_order order ls) }
+    ensures least { (order : T → T → Option Ordering)
+        → IsStrictWeakOrder (λ x y. reads_lt (order x y))
+        → ((x : T) (y : T) → reads_le (order x y) ≡ not (reads_lt (order y x)))
+        → (ls : List (List (Result T E)))
+        → LeastFirst (λ x y. reads_lt (order x y)) ls (kmerged_in_order order ls) }
 {}
 
 /// Each hint of `KMergeBy` is sound: it says that at least 0 items come.
