@@ -22,6 +22,7 @@ PARTS = {
     "ByNumber": ["KeptByNumber"],
     "Cycle": ["Laps"],
     "Flatten": ["Finished", "FinishedPart"],
+    "MergeTree": ["TreeDraws"],
     "Peekable": ["held_of", "peekable_step_back", "Peeks", "NextIf"],
     "Staging": ["DrawsUpTo", "stage_step"],
 }

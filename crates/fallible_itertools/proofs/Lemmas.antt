@@ -25,6 +25,8 @@ pub use Rattle.fallible_itertools_adapters.proofs.Lemmas.Interleave
 pub use Rattle.fallible_itertools_adapters.proofs.Lemmas.Intersperse
 pub use Rattle.fallible_itertools_adapters.proofs.Lemmas.KMerge
 pub use Rattle.fallible_itertools_adapters.proofs.Lemmas.KMergeBy
+pub use Rattle.fallible_itertools_adapters.proofs.Lemmas.KMergedItems
+pub use Rattle.fallible_itertools_adapters.proofs.Lemmas.LeastFirst
 pub use Rattle.fallible_itertools_adapters.proofs.Lemmas.Lengths
 pub use Rattle.fallible_itertools_adapters.proofs.Lemmas.LoopsMade
 pub use Rattle.fallible_itertools_adapters.proofs.Lemmas.MayCome

@@ -20,5 +20,5 @@ pub use fallible_itertools_adapters::laws::{
     law_zipped_longest,
 };
 pub use fallible_itertools_consumers::laws::{
-    law_joined, law_partition_failures, law_until_failure,
+    law_added, law_folded_by_key, law_joined, law_partition_failures, law_until_failure,
 };

@@ -25,6 +25,8 @@ pub mod Interleave
 pub mod Intersperse
 pub mod KMerge
 pub mod KMergeBy
+pub mod KMergedItems
+pub mod LeastFirst
 pub mod Lengths
 pub mod LoopsMade
 pub mod MayCome

@@ -20,6 +20,7 @@ pub mod Merge
 pub mod MergeBy
 pub mod MergeJoinBy
 pub mod MergeTree
+pub mod MergeTreeTraces
 pub mod OrElse
 pub mod OverTraces
 pub mod PadUsing

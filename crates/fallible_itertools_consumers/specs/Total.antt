@@ -1,5 +1,5 @@
 -- Sums and products that don't overflow.
-use Rattle.std.specs.Prelude.{◌≡◌, Option, Some, None, Result, Ok, Err, List, [], ◌∷◌}
+use Rattle.std.specs.Prelude.{◌≡◌, Some, None, Result, Ok, Err, List}
 use Rattle.std.specs.List.{fold}
 use Rattle.std.specs.declared.convert.Infallible.{Infallible}
 use Rattle.std.specs.declared.ops.ControlFlow.{ControlFlow}

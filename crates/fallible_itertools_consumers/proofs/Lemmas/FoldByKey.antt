@@ -1,10 +1,12 @@
 -- Folds of the values of each key, pair by pair.
-use Rattle.std.specs.Prelude.{◌≡◌, Bool, true, false, cond, List, [], ◌∷◌, ◌++◌, map, unwrap_or, Option, Some, None, Result, Ok, Err}
+use Rattle.std.specs.Prelude.{◌≡◌, Bool, true, false, cond, List, [], ◌∷◌, ◌++◌, map, unwrap_or, Option, Some, None, Result, Ok, Err, vec_items}
 use Rattle.std.specs.List.{FoldsTo}
 use Rattle.std.specs.Option.{option_map}
 use Rattle.std.specs.Map.{lookup, lookup_key, update_all}
 use Rattle.std.specs.HashMap as hash
 use Rattle.std.specs.Cmp.{IsEquivalence}
+use Rattle.std.specs.declared.alloc.Global.{Global}
+use Rattle.std.specs.declared.vec.Vec.{Vec}
 use Rattle.std.specs.declared.ops.ControlFlow.TheVariants.{Continue}
 use Rattle.std.proofs.Common.{refl, sym, ap, subst, ◌∙◌, append-nil, inl, inr}
 use Rattle.std.proofs.lemmas.Map.{update_all_push}
@@ -22,10 +24,9 @@ use Rattle.fallible_iterator.specs.Lists.{AlwaysGives, Lists, Acts, ActsWith, on
 use Rattle.fallible_iterator.proofs.Lemmas.Callers.{run_at_view}
 use Rattle.fallible_iterator.proofs.Lemmas.Collecting.{collects_all_gathered, fails_with_gathered, refuses_item_gathered}
 use Rattle.fallible_iterator.proofs.Lemmas.Lists.Drawn.{drawn_of_lists}
-use Rattle.fallible_itertools_consumers.specs.GroupMap.{values_where, unless_empty, values_of_key}
+use Rattle.fallible_itertools_consumers.specs.GroupMap.{IsGroupMapOf, values_where, unless_empty, values_of_key}
 use Rattle.fallible_itertools_consumers.specs.FoldByKey.{value_at, last_value, AddsValue, FoldFails, FoldRefused, IsKeyFoldTurn, KeyFolds, FoldsByKey, fold_of, IsKeyFoldOf, unless_failed, checked_folds}
 use Rattle.fallible_itertools_consumers.specs.Keyed.{keyed_parts, keyed_contract, keyed}
-use Rattle.fallible_itertools_consumers.specs.declared.keyed.Keyed.{Keyed}
 use Rattle.fallible_itertools_consumers.proofs.Lemmas.Keyed.{lists_keyed}
 use Rattle.fallible_itertools_consumers.proofs.Lemmas.GroupMap.{values_where_pushed, values_where_is_same_where_tests_alike, unless_empty_of_one_more_is_some}
 
@@ -106,6 +107,36 @@ module _ {B X E : Type 0} (h : B → X → Result B E) where
       by_first : (r : Result B E) → ((c : B) → fold_of h c (values ++ x ∷ []) ≡ on_value (fold_of h c values) (λ d. h d x)) → on_value r (λ c. fold_of h c (values ++ x ∷ [])) ≡ on_value (on_value r (λ c. fold_of h c values)) (λ c. h c x)
       by_first (Ok c) later = later c
       by_first (Err e) later = refl
+
+  pub fold_of_append : (xs : List X) (b : B) (ys : List X) → fold_of h b (xs ++ ys) ≡ on_value (fold_of h b xs) (λ c. fold_of h c ys)
+  unfolding folded
+  fold_of_append [] b ys = refl
+  fold_of_append (x ∷ xs) b ys = by_first (h b x) (λ c. fold_of_append xs c ys)
+    where
+      by_first : (r : Result B E) → ((c : B) → fold_of h c (xs ++ ys) ≡ on_value (fold_of h c xs) (λ d. fold_of h d ys)) → on_value r (λ c. fold_of h c (xs ++ ys)) ≡ on_value (on_value r (λ c. fold_of h c xs)) (λ c. fold_of h c ys)
+      by_first (Ok c) later = later c
+      by_first (Err e) later = refl
+
+  -- where h never fails, no fold does
+  module _ (always : (b : B) (x : X) → (c : B) × (h b x ≡ Ok c)) where
+    fold_where_none_fails : (xs : List X) (b : B) → (c : B) × (fold_of h b xs ≡ Ok c)
+    unfolding folded
+    fold_where_none_fails [] b = (b, refl)
+    fold_where_none_fails (x ∷ xs) b = let first = always b x in let rest = fold_where_none_fails xs first.0 in (rest.0, ap (λ r. on_value r (λ c. fold_of h c xs)) first.1 ∙ rest.1)
+
+    pub checked_folds_where_none_fails : {K : Type 0} (eq : K → K → Bool) (init : B) (l : List (Result (K × X) E)) (before : List (K × X)) → checked_folds eq h init before l ≡ l
+    unfolding checked_folds
+    checked_folds_where_none_fails eq init [] before = refl
+    checked_folds_where_none_fails {K} eq init (Ok p ∷ l) before = let made = fold_where_none_fails (values_where (eq p.0) (before ++ p ∷ [])) init in ap (λ r. unless_failed p r ∷ checked_folds eq h init (before ++ p ∷ []) l) made.1 ∙ ap {B = List (Result (K × X) E)} (λ k. Ok p ∷ k) (checked_folds_where_none_fails eq init l (before ++ p ∷ []))
+    checked_folds_where_none_fails {K} eq init (Err e ∷ l) before = ap {B = List (Result (K × X) E)} (λ k. Err e ∷ k) (checked_folds_where_none_fails eq init l before)
+
+  -- each group is folded
+  pub folds_of_groups : {K S R : Type 0} (eq : K → K → Bool) (init : B) (pairs : List (K × X)) (groups : hash.HashMap K (Vec X Global) S) (folds : hash.HashMap K B R) → IsGroupMapOf eq pairs groups → IsKeyFoldOf eq h init pairs folds → (k : K) → option_map (λ b. Ok b) (hash.get eq folds k) ≡ option_map (λ v. fold_of h init (vec_items v)) (hash.get eq groups k)
+  folds_of_groups eq init pairs groups folds grouped folded k = folded.folds k ∙ ap (λ o. option_map (fold_of h init) o) (sym (grouped.grouped k)) ∙ of_both (hash.get eq groups k)
+    where
+      of_both : (o : Option (Vec X Global)) → option_map (fold_of h init) (option_map vec_items o) ≡ option_map (λ v. fold_of h init (vec_items v)) o
+      of_both None = refl
+      of_both (Some v) = refl
 
 -- ---- what each key is folded to
 
