@@ -1,7 +1,6 @@
 -- What the closure returns is the value of the key, which had one or is new.
-use Rattle.std.specs.Prelude.{IsSome, unwrap_or, [], ◌∷◌, ◌++◌}
-use Rattle.std.proofs.Common.{BuildHasherDefault, FoldHasher, Some, Ok, ap, refl, subst, sym, ◌∙◌}
-use Rattle.std.specs.HashMap.{get}
+use Rattle.std.specs.Prelude.{IsSome, unwrap_or}
+use Rattle.std.proofs.Common.{BuildHasherDefault, FoldHasher, Some, Ok, ap, refl, subst, sym}
 use Rattle.fallible_iterator.specs.Folds.{call_with}
 use Rattle.fallible_iterator.specs.Collecting.Keyed.{IsHashedMapOf}
 use Rattle.fallible_iterator.proofs.Lemmas.Collecting.Keyed.{hashed_map_of_pairs_and_one_more}
