@@ -59,7 +59,7 @@ ghost use Rattle.fallible_itertools_consumers.specs.MinMax.{MinMaxDrains, minmax
 ghost use Rattle.fallible_itertools_consumers.specs.MinMaxBy.{MinMaxCall, MinMaxKeyCall, MinMaxKeyDrains, minmaxed_by, minmaxed_by_key, takes_beside};
 ghost use Rattle.fallible_itertools_adapters.specs.PadUsing as pad_using;
 ghost use Rattle.fallible_itertools_consumers.specs.PositionBest.{PlaceDrains, position_greatest, position_least};
-ghost use Rattle.fallible_itertools_adapters.specs.Plan.{call_on_pair, passes, plan_can, takes_pair};
+ghost use Rattle.fallible_itertools_adapters.specs.Plan.{passes, plan_can};
 ghost use Rattle.fallible_itertools_adapters.specs.Positions.{positions_contract, positions_parts, positions_source, positions_where};
 ghost use Rattle.fallible_itertools_adapters.specs.RunCounts.{count_plan, count_stops, deduped_by_with_count, deduped_with_count};
 ghost use Rattle.fallible_itertools_consumers.specs.Parted.{PartitionedFailuresAs, parted_step, without_source};
@@ -315,8 +315,8 @@ pub trait FallibleItertools: FallibleIterator {
         Self::Item: Drop,
         Self::Error: Drop,
         F: FnMut(&Self::Item, &Self::Item) -> Result<bool, Self::Error>,
-        requires callable { plan_can (call_on_pair (call_at_two F.FnMut)) count_plan count_stops
-            (takes_pair (takes_at_two F.FnMut)) (MayMeet Self.contract self) (None, same) }
+        requires callable { plan_can (same_call F.FnMut) count_plan count_stops
+            (same_takes F.FnMut) (MayMeet Self.contract self) (None, same) }
         ensures parts { dedup_by_with_count_parts result ≡ (self, ((None, same), None)) }
         ensures lists { (h : Self.Item → Self.Item → Result Bool Self.Error)
             (l : List (Result Self.Item Self.Error))

@@ -4,9 +4,9 @@ use Rattle.std.specs.Fn.{Mut}
 use Rattle.std.specs.Borrow.{Bor}
 use Rattle.fallible_iterator.specs.Traces.{Answered}
 use Rattle.fallible_iterator.specs.Contract.{Contract, Inverse}
-use Rattle.fallible_iterator.specs.Picking.{call_at_two, takes_at_two}
 use Rattle.fallible_itertools_adapters.specs.BeforeStop.{held_hints, held_one}
-use Rattle.fallible_itertools_adapters.specs.Plan.{bounded, call_on_pair, closure_contract, plan_meets, takes_pair}
+use Rattle.fallible_itertools_adapters.specs.DedupBy.{same_call, same_takes}
+use Rattle.fallible_itertools_adapters.specs.Plan.{bounded, closure_contract, plan_meets}
 use Rattle.fallible_itertools_adapters.specs.RunCounts.{count_plan, count_stops}
 use Rattle.fallible_itertools_adapters.specs.Staging.{StagedTrace, stop_comes}
 use Rattle.fallible_itertools_adapters.specs.declared.dedup_by_with_count.DedupByWithCount.{DedupByWithCount}
@@ -15,11 +15,11 @@ use Rattle.std.proofs.Common.{refl}
 module _ {A F E : Type 0} (g : Mut F (Bor A × (Bor A × Unit {0})) (Result Bool E)) where
   -- `DedupByWithCount`: the first of adjacent items that are the same beside their number, each where the next one that differs stands or a stop; the closure's failure is a stop.
   abbrev pub DedupByWithCountTrace : {S : Type 0} → (S → List (Answered A E) → S → Type 0) → S × ((Option (ℕ × A) × F) × Option (Option E)) → List (Answered (ℕ × A) E) → S × ((Option (ℕ × A) × F) × Option (Option E)) → Type 0
-  DedupByWithCountTrace traces p trace q = StagedTrace traces stop_comes (plan_meets (call_on_pair (call_at_two g)) count_plan count_stops) p trace q
+  DedupByWithCountTrace traces p trace q = StagedTrace traces stop_comes (plan_meets (same_call g) count_plan count_stops) p trace q
 
   -- `DedupByWithCount`'s contract: the closure may be called on references to what is held and each item that may come.
   abbrev pub dedup_by_with_count_contract : {S : Type 0} → Contract S A E → Contract (S × ((Option (ℕ × A) × F) × Option (Option E))) (ℕ × A) E
-  dedup_by_with_count_contract m = closure_contract (bounded m) stop_comes (call_on_pair (call_at_two g)) (takes_pair (takes_at_two g)) count_plan count_stops 1 held_one (held_hints held_one)
+  dedup_by_with_count_contract m = closure_contract (bounded m) stop_comes (same_call g) (same_takes g) count_plan count_stops 1 held_one (held_hints held_one)
 
 -- the source
 abbrev pub dedup_by_with_count_source : {I A E F : Type 0} → DedupByWithCount I F A E → I

@@ -1,5 +1,5 @@
 -- `WithPosition`, which yields each item with its position among the items between two stops.
-use Rattle.std.specs.Prelude.{ℕ, Bool, true, false, Option, Some, None, Result, List}
+use Rattle.std.specs.Prelude.{Bool, true, false, Option, Some, None, Result, List}
 use Rattle.fallible_iterator.specs.Traces.{Answered, item}
 use Rattle.fallible_iterator.specs.Contract.{Contract, Inverse}
 use Rattle.fallible_iterator.specs.Hints.{hint_sum}

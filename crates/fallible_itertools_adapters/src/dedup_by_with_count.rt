@@ -2,11 +2,11 @@
 ghost use Rattle.std.specs.Prelude.{Option, Result, None, ◌≡◌};
 ghost use Rattle.fallible_iterator.specs.Contract.{parts_as};
 ghost use Rattle.fallible_iterator.specs.Laws.Contract.{lawful_parts};
-ghost use Rattle.fallible_iterator.specs.Picking.{call_at_two, takes_at_two};
 ghost use Rattle.fallible_itertools_adapters.specs.BeforeStop.{held_one};
+ghost use Rattle.fallible_itertools_adapters.specs.DedupBy.{same_call, same_takes};
 ghost use Rattle.fallible_itertools_adapters.specs.DedupByWithCount.{dedup_by_with_count_contract, dedup_by_with_count_made, dedup_by_with_count_parts};
 ghost use Rattle.fallible_itertools_adapters.specs.Laws.RunCounts.{is_stage_count, lawful_dedup_by_with_count};
-ghost use Rattle.fallible_itertools_adapters.specs.Plan.{call_on_pair, plan_item, plan_stop, plan_takes, takes_pair};
+ghost use Rattle.fallible_itertools_adapters.specs.Plan.{plan_item, plan_stop, plan_takes};
 ghost use Rattle.fallible_itertools_adapters.specs.RunCounts.{count_plan, count_stops};
 ghost use Rattle.fallible_itertools_adapters.specs.Staging.{stop_comes};
 
@@ -86,13 +86,13 @@ impl<X: Drop, E, F: FnMut(&X, &X) -> Result<bool, E>> Stage<(Option<(usize, X)>,
 
     ghost comes = { λ _ stop. stop_comes stop };
 
-    ghost can_meet = { λ _ p x. plan_takes (takes_pair (takes_at_two F.FnMut)) (count_plan {E = E}) p
+    ghost can_meet = { λ _ p x. plan_takes (same_takes F.FnMut) (count_plan {E = E}) p
         x };
 
-    ghost items = { λ _ p x made q. plan_item (call_on_pair (call_at_two F.FnMut)) count_plan
+    ghost items = { λ _ p x made q. plan_item (same_call F.FnMut) count_plan
         count_stops p x made q };
 
-    ghost stops = { λ _ p stop made q. plan_stop (call_on_pair (call_at_two F.FnMut)) count_plan
+    ghost stops = { λ _ p stop made q. plan_stop (same_call F.FnMut) count_plan
         count_stops p stop made q };
 
     ghost most = { λ _. 1 };
@@ -101,8 +101,8 @@ impl<X: Drop, E, F: FnMut(&X, &X) -> Result<bool, E>> Stage<(Option<(usize, X)>,
 
     #[inline(always)]
     fn on_item(&self, p: &mut (Option<(usize, X)>, F), item: X) -> Made<(usize, X), Stop<E>, E>
-        requires { plan_takes (takes_pair (takes_at_two F.FnMut)) (count_plan {E = E}) p.old item }
-        ensures { plan_item (call_on_pair (call_at_two F.FnMut)) count_plan count_stops p.old item
+        requires { plan_takes (same_takes F.FnMut) (count_plan {E = E}) p.old item }
+        ensures { plan_item (same_call F.FnMut) count_plan count_stops p.old item
             result p.new }
     {
         match &mut p.0 {
@@ -130,7 +130,7 @@ impl<X: Drop, E, F: FnMut(&X, &X) -> Result<bool, E>> Stage<(Option<(usize, X)>,
         p: &mut (Option<(usize, X)>, F),
         stop: Stop<E>,
     ) -> Made<(usize, X), Stop<E>, E>
-        ensures { plan_stop (call_on_pair (call_at_two F.FnMut)) count_plan count_stops p.old stop
+        ensures { plan_stop (same_call F.FnMut) count_plan count_stops p.old stop
             result p.new }
     {
         let_go(p.0.take(), stop)
@@ -141,5 +141,5 @@ impl<X: Drop, E, F: FnMut(&X, &X) -> Result<bool, E>> Stage<(Option<(usize, X)>,
         (stopped(due), None)
     }
 
-    ghost is_stage = { λ _. is_stage_count (call_on_pair (call_at_two F.FnMut)) };
+    ghost is_stage = { λ _. is_stage_count (same_call F.FnMut) };
 }

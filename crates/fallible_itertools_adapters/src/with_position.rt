@@ -1,5 +1,5 @@
 // The adapter that yields each item with its position.
-ghost use Rattle.std.specs.Prelude.{◌≡◌, ⊤, Bool, None, Option, Result};
+ghost use Rattle.std.specs.Prelude.{◌≡◌, ⊤, None, Option, Result};
 ghost use Rattle.fallible_iterator.specs.Contract.{parts_as};
 ghost use Rattle.fallible_iterator.specs.Laws.Contract.{lawful_parts};
 ghost use Rattle.fallible_itertools_adapters.specs.BeforeStop.{held_one};

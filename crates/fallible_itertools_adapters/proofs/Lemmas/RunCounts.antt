@@ -9,11 +9,12 @@ use Rattle.fallible_iterator.specs.Picking.{call_at_two}
 use Rattle.fallible_iterator.specs.Traces.{Answered}
 use Rattle.fallible_iterator.proofs.Lemmas.Lists.Passing.{lists_seen}
 use Rattle.fallible_itertools_adapters.specs.BeforeStop.{HintsWhereHeld, before_stop, held_hints, held_one}
+use Rattle.fallible_itertools_adapters.specs.DedupBy.{same_call}
 use Rattle.fallible_itertools_adapters.specs.DedupByWithCount.{dedup_by_with_count_contract, dedup_by_with_count_parts}
 use Rattle.fallible_itertools_adapters.specs.DedupWithCount.{are_equal, dedup_with_count_contract, dedup_with_count_parts}
 use Rattle.fallible_itertools_adapters.specs.Laws.Plan.{Always}
 use Rattle.fallible_itertools_adapters.specs.Laws.RunCounts.{count_weighs}
-use Rattle.fallible_itertools_adapters.specs.Plan.{bounded, call_on_pair, plan_hint, plan_meets}
+use Rattle.fallible_itertools_adapters.specs.Plan.{bounded, plan_hint, plan_meets}
 use Rattle.fallible_itertools_adapters.specs.RunCounts.{count_plan, count_stops, counted_by, deduped_by_with_count, deduped_with_count, first_once_more, one_more}
 use Rattle.fallible_itertools_adapters.specs.Staged.{as_function, calls_function, made_first, plan_does, staged}
 use Rattle.fallible_itertools_adapters.specs.Staging.{Made, stage_contract, stop_comes}
@@ -115,7 +116,7 @@ lists_deduped_with_count {E = E} {it = it} m eq s l parts i = lists_seen dedup_w
 pub lists_deduped_by_with_count : {S A F E : Type 0} {it : S} (m : Contract S A E) (g : Mut F (Bor A × (Bor A × Unit {0})) (Result Bool E)) (s : DedupByWithCount S F A E) (f : F) (h : A → A → Result Bool E) (l : List (Result A E)) → dedup_by_with_count_parts s ≡ (it, ((None, f), None)) → ActsWith (call_at_two g) f h → Lists m.steps it l
     → Lists (parts_as dedup_by_with_count_parts (dedup_by_with_count_contract g m)).steps s (deduped_by_with_count h l)
 unfolding deduped_by_with_count
-lists_deduped_by_with_count {E = E} {it = it} m g s f h l parts acts i = lists_seen dedup_by_with_count_parts (dedup_by_with_count_contract g m).steps s parts refl (gives_plan m.steps stop_comes (call_on_pair (call_at_two g)) count_plan count_stops (as_function (λ both. h both.0 both.1)) (λ p z. p ≡ f) (λ p z q v k is called. let d = acts q.0 q.1 v k (subst (λ c. call_at_two g c q.0 q.1 v k) is called) in (d.1, d.0)) (end_before_stop E) l it None f tt refl i.runs)
+lists_deduped_by_with_count {E = E} {it = it} m g s f h l parts acts i = lists_seen dedup_by_with_count_parts (dedup_by_with_count_contract g m).steps s parts refl (gives_plan m.steps stop_comes (same_call g) count_plan count_stops (as_function (λ both. h both.0 both.1)) (λ p z. p ≡ f) (λ p z q v k is called. let d = acts q.0 q.1 v k (subst (λ c. call_at_two g c q.0 q.1 v k) is called) in (d.1, d.0)) (end_before_stop E) l it None f tt refl i.runs)
 
 -- ---- the hint
 
@@ -130,4 +131,4 @@ module _ {F A E : Type 0} (call : F → A × A → Result Bool E → F → Type 
   held_where_none (Some p) x = λ v. counted_held_where_none p x v
 
   pub hints_counted : {V S : Type 0} (view : V → S × ((Option (ℕ × A) × F) × Option (Option E))) (m : Contract S A E) (can : (Answered A E → Type 0) → Option (ℕ × A) × F → Type 0) → HintsWhereHeld (parts_as view (stage_contract (bounded m) stop_comes (plan_meets call count_plan count_stops) can 1 (λ p. held_one p.0) (plan_hint (bounded m) (held_hints held_one)))) (λ s. (view s).1.1) m (λ s. (view s).0)
-  hints_counted view m can = let w = hints_where_one_held E (λ held. held) (λ held. None) held_one (λ held. refl) call count_plan (count_weighs E) (count_no_end A E) held_where_none view (bounded m) can 1 in record { none_due = w.none_due; due = w.due; failure_due = w.failure_due }
+  hints_counted view m can = hints_where_one_held E (λ held. held) (λ held. None) held_one (λ held. refl) call count_plan (count_weighs E) (count_no_end A E) held_where_none view m can 1

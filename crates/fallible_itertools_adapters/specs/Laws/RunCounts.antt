@@ -4,12 +4,12 @@ use Rattle.std.specs.Fn.{Mut}
 use Rattle.std.specs.Borrow.{Bor}
 use Rattle.std.proofs.Common.{refl, arith}
 use Rattle.fallible_iterator.specs.Contract.{Contract, Lawful}
-use Rattle.fallible_iterator.specs.Picking.{call_at_two, takes_at_two}
 use Rattle.fallible_itertools_adapters.specs.BeforeStop.{held_hints, held_one}
+use Rattle.fallible_itertools_adapters.specs.DedupBy.{same_call, same_takes}
 use Rattle.fallible_itertools_adapters.specs.DedupByWithCount.{dedup_by_with_count_contract}
 use Rattle.fallible_itertools_adapters.specs.DedupWithCount.{are_equal, dedup_with_count_contract}
 use Rattle.fallible_itertools_adapters.specs.Laws.Plan.{Always, ItemWeighs, StopWeighs, before_stop_weighs, is_stage_plan, lawful_bounded, lawful_closure, lawful_plan}
-use Rattle.fallible_itertools_adapters.specs.Plan.{call_on_pair, plan_meets, takes_pair}
+use Rattle.fallible_itertools_adapters.specs.Plan.{plan_meets}
 use Rattle.fallible_itertools_adapters.specs.RunCounts.{count_plan, count_stops, counted_by}
 use Rattle.fallible_itertools_adapters.specs.Staged.{calls_function}
 use Rattle.fallible_itertools_adapters.specs.Staging.{IsStage, stop_comes}
@@ -34,4 +34,4 @@ pub lawful_dedup_with_count : {S A E : Type 0} {m : Contract S A E} (eq : A → 
 lawful_dedup_with_count eq l = lawful_plan (lawful_bounded l) stop_comes (calls_function (are_equal eq)) count_plan count_stops 1 held_one (held_hints held_one) (is_stage_count (calls_function (are_equal eq)))
 
 pub lawful_dedup_by_with_count : {S A F E : Type 0} {m : Contract S A E} (g : Mut F (Bor A × (Bor A × Unit {0})) (Result Bool E)) → Lawful m → Lawful (dedup_by_with_count_contract g m)
-lawful_dedup_by_with_count g l = lawful_closure (lawful_bounded l) stop_comes (call_on_pair (call_at_two g)) count_plan count_stops 1 held_one (held_hints held_one) (is_stage_count (call_on_pair (call_at_two g))) (takes_pair (takes_at_two g))
+lawful_dedup_by_with_count g l = lawful_closure (lawful_bounded l) stop_comes (same_call g) count_plan count_stops 1 held_one (held_hints held_one) (is_stage_count (same_call g)) (same_takes g)
