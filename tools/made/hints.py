@@ -17,7 +17,7 @@ SAID = {
     "TakeWhileInclusive": [("`is_held`", "an item was rejected")],
     "Tuples": [("1, first", "1, 1 - held")],
     "PadUsing": [("end.saturating_sub(next)", "missing")],
-    "Chunks": [("stage.0.0, stage.0.1", "n, batch"), DUE],
+    "Chunks": [("stage.0.0.0, stage.0.0.1", "n, batch"), DUE],
     **{name: [DUE] for name in ("ChunkBy", "Coalesce", "Dedup", "DedupBy", "DedupByKey", "DedupByWithCount", "DedupWithCount",
                                 "WithPosition")},
     **{name: SIDES for name in ("ZipEq", "ZipLongest")},

@@ -6,4 +6,4 @@ pub returns-clause-lists : goal.returns-clause-lists
 returns-clause-lists g c h l a i = lists_up_to_refusal_chunked g.Self.FallibleIterator.contract g.Self.Error.From.from_gives g.K.PartialEq.eq g.F.FnMut c.args.key h a _ l c.new.ensures i
 
 pub returns-clause-callable : goal.returns-clause-callable
-returns-clause-callable g c = plan_can_chunk_by g.Self.FallibleIterator.contract g.Self.Error.From.from_gives g.K.PartialEq.eq g.F.FnMut _ _ c.requires
+returns-clause-callable g c = plan_can_chunk_by g.Self.FallibleIterator.contract g.Self.Error.From.from_gives g.K.PartialEq.eq g.F.FnMut _ _ c.requires.callable
