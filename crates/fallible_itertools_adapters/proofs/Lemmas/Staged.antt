@@ -1,5 +1,5 @@
 -- What an adapter by functions lists, where what it calls acts as a function says; up to an allocation failure, where one may come.
-use Rattle.std.specs.Prelude.{◌≡◌, ⊤, ◌⊎◌, Option, Some, None, Result, Ok, Err, List, [], ◌∷◌}
+use Rattle.std.specs.Prelude.{◌≡◌, ◌⊎◌, Option, Some, None, Result, Ok, Err, List, [], ◌∷◌}
 use Rattle.std.proofs.Common.{refl, sym, subst, inl, inr}
 use Rattle.fallible_iterator.specs.Traces.{Answered, Run, end}
 use Rattle.fallible_iterator.specs.Lists.{AlwaysGives, EndsForGood, result_answer}
