@@ -95,15 +95,14 @@ pub trait FallibleItertools: FallibleIterator + Sized {
     /// As it is proved, in [these words](crate::words):
     ///
     /// ```text
-    /// requires callable { IsCallable (coalesce.coalesce_asks (fold.call_with F.FnMut))
-    ///     (coalesce.coalesce_takes (fold.takes_with F.FnMut)) (MayBeAsked Self.contract self)
-    ///     (None, f) }
+    /// requires callable { plan_can (coalesce.coalesce_call F.FnMut) coalesce.coalesce_plan dedup_stops
+    ///     (coalesce.coalesce_takes F.FnMut) (MayMeet Self.contract self) (None, f) }
     /// ensures parts { coalesce.coalesce_parts result ≡ (self, ((None, f), None)) }
     /// ensures lists { (h : Self.Item → Self.Item → coalesce.OneOrBoth Self.Item Self.Error)
     ///     (l : List (Result Self.Item Self.Error))
     ///     → list.ActsWith (fold.call_with F.FnMut) f h → list.Lists Self.contract.steps self l
     ///     → list.Lists (seen_as coalesce.coalesce_parts
-    ///     (coalesce.coalesce_contract Self.contract F.FnMut)).steps result
+    ///     (coalesce.coalesce_contract F.FnMut Self.contract)).steps result
     ///     (coalesce.coalesced h l) }
     /// ```
     /// </details>
@@ -139,14 +138,14 @@ pub trait FallibleItertools: FallibleIterator + Sized {
     /// requires callable { IsCallable (call_by_reference F.FnMut) (takes_by_reference F.FnMut)
     ///     (Self.contract.may_give self) f }
     /// ensures parts { dedup_by_key.dedup_by_key_parts result ≡ (self, ((None, f), None)) }
-    /// ensures callable { IsCallable (dedup_by_key.dedup_key_asks K.eq (call_by_reference F.FnMut))
-    ///     (dedup_by_key.dedup_key_takes (takes_by_reference F.FnMut)) (MayBeAsked Self.contract self)
+    /// ensures callable { plan_can (call_by_reference F.FnMut) (dedup_by_key.dedup_key_plan K.eq)
+    ///     dedup_by_key.dedup_key_stops (takes_by_reference F.FnMut) (MayMeet Self.contract self)
     ///     (None, f) }
     /// ensures lists { (h : Self.Item → Result K Self.Error)
     ///     (l : List (Result Self.Item Self.Error)) → list.Acts (call_by_reference F.FnMut) f h
     ///     → list.Lists Self.contract.steps self l
     ///     → list.Lists (seen_as dedup_by_key.dedup_by_key_parts
-    ///     (dedup_by_key.dedup_by_key_contract K.eq Self.contract F.FnMut)).steps result
+    ///     (dedup_by_key.dedup_by_key_contract K.eq F.FnMut Self.contract)).steps result
     ///     (dedup_by_key.deduped_by_key K.eq h l) }
     /// ```
     /// </details>
@@ -179,13 +178,13 @@ pub trait FallibleItertools: FallibleIterator + Sized {
     /// As it is proved, in [these words](crate::words):
     ///
     /// ```text
-    /// requires callable { IsCallable (dedup_by_asks (call_at_two F.FnMut))
-    ///     (dedup_by_takes (takes_at_two F.FnMut)) (MayBeAsked Self.contract self) (None, same) }
+    /// requires callable { plan_can (same_call F.FnMut) dedup_by_plan dedup_stops
+    ///     (same_takes F.FnMut) (MayMeet Self.contract self) (None, same) }
     /// ensures parts { dedup_by_parts result ≡ (self, ((None, same), None)) }
     /// ensures lists { (h : Self.Item → Self.Item → Result Bool Self.Error)
     ///     (l : List (Result Self.Item Self.Error))
     ///     → list.ActsWith (call_at_two F.FnMut) same h → list.Lists Self.contract.steps self l
-    ///     → list.Lists (seen_as dedup_by_parts (dedup_by_contract Self.contract F.FnMut)).steps
+    ///     → list.Lists (seen_as dedup_by_parts (dedup_by_contract F.FnMut Self.contract)).steps
     ///     result (deduped_by h l) }
     /// ```
     /// </details>
@@ -215,7 +214,7 @@ pub trait FallibleItertools: FallibleIterator + Sized {
     /// As it is proved, in [these words](crate::words):
     ///
     /// ```text
-    /// ensures parts { dedup_parts result ≡ (self, (None, None)) }
+    /// ensures parts { dedup_parts result ≡ (self, ((None, tt), None)) }
     /// ensures lists { (l : List (Result Self.Item Self.Error))
     ///     → list.Lists Self.contract.steps self l
     ///     → list.Lists (seen_as dedup_parts (dedup_contract Self.Item.eq Self.contract)).steps
@@ -250,7 +249,7 @@ pub trait FallibleItertools: FallibleIterator + Sized {
     /// As it is proved, in [these words](crate::words):
     ///
     /// ```text
-    /// ensures parts { dedup_with_count_parts result ≡ (self, (None, None)) }
+    /// ensures parts { dedup_with_count_parts result ≡ (self, ((None, tt), None)) }
     /// ensures lists { (l : List (Result Self.Item Self.Error))
     ///     → list.Lists Self.contract.steps self l
     ///     → list.Lists (seen_as dedup_with_count_parts
@@ -286,15 +285,14 @@ pub trait FallibleItertools: FallibleIterator + Sized {
     /// As it is proved, in [these words](crate::words):
     ///
     /// ```text
-    /// requires callable { IsCallable (dedup_by_with_count_asks (call_at_two F.FnMut))
-    ///     (dedup_by_with_count_takes (takes_at_two F.FnMut)) (MayBeAsked Self.contract self)
-    ///     (None, same) }
+    /// requires callable { plan_can (same_call F.FnMut) count_plan count_stops
+    ///     (same_takes F.FnMut) (MayMeet Self.contract self) (None, same) }
     /// ensures parts { dedup_by_with_count_parts result ≡ (self, ((None, same), None)) }
     /// ensures lists { (h : Self.Item → Self.Item → Result Bool Self.Error)
     ///     (l : List (Result Self.Item Self.Error))
     ///     → list.ActsWith (call_at_two F.FnMut) same h → list.Lists Self.contract.steps self l
     ///     → list.Lists (seen_as dedup_by_with_count_parts
-    ///     (dedup_by_with_count_contract Self.contract F.FnMut)).steps result
+    ///     (dedup_by_with_count_contract F.FnMut Self.contract)).steps result
     ///     (deduped_by_with_count h l) }
     /// ```
     /// </details>
@@ -327,7 +325,7 @@ pub trait FallibleItertools: FallibleIterator + Sized {
     /// As it is proved, in [these words](crate::words):
     ///
     /// ```text
-    /// ensures parts { with_position_parts result ≡ (self, (None, None)) }
+    /// ensures parts { with_position_parts result ≡ (self, ((None, tt), None)) }
     /// ensures lists { (l : List (Result Self.Item Self.Error))
     ///     → list.Lists Self.contract.steps self l
     ///     → list.Lists (seen_as with_position_parts (with_position_contract Self.contract)).steps
@@ -357,7 +355,7 @@ pub trait FallibleItertools: FallibleIterator + Sized {
     /// As it is proved, in [these words](crate::words):
     ///
     /// ```text
-    /// ensures parts { tuple_windows_parts result ≡ (self, None) }
+    /// ensures parts { tuple_windows_parts result ≡ (self, ((None, tt), None)) }
     /// ensures lists { (l : List (Result Self.Item Self.Error))
     ///     → list.Lists Self.contract.steps self l
     ///     → ((x y : Self.Item) → Self.Item.is_clone x y → y ≡ x)
@@ -399,7 +397,7 @@ pub trait FallibleItertools: FallibleIterator + Sized {
     /// As it is proved, in [these words](crate::words):
     ///
     /// ```text
-    /// ensures parts { tuples_parts result ≡ (self, None) }
+    /// ensures parts { tuples_parts result ≡ (self, ((None, tt), None)) }
     /// ensures lists { (l : List (Result Self.Item Self.Error))
     ///     → list.Lists Self.contract.steps self l
     ///     → list.Lists (seen_as tuples_parts (tuples_contract Self.contract)).steps result
@@ -1475,14 +1473,15 @@ pub trait FallibleItertools: FallibleIterator + Sized {
     /// As it is proved, in [these words](crate::words):
     ///
     /// ```text
-    /// ensures left { merge_left result ≡ self }
-    /// ensures left_ended { merge_left_ended result ≡ false }
-    /// ensures left_held { merge_left_held result ≡ None }
-    /// ensures right { I.into_gives other (merge_right result) }
-    /// ensures right_ended { merge_right_ended result ≡ false }
-    /// ensures right_held { merge_right_held result ≡ None }
+    /// ensures left { sides.left_source (merge_parts result) ≡ self }
+    /// ensures left_ended { sides.left_ended (merge_parts result) ≡ false }
+    /// ensures left_held { sides.left_item (merge_parts result) ≡ None }
+    /// ensures right { I.into_gives other (sides.right_source (merge_parts result)) }
+    /// ensures right_ended { sides.right_ended (merge_parts result) ≡ false }
+    /// ensures right_held { sides.right_item (merge_parts result) ≡ None }
     /// ensures bounded { (a b k : ℕ) → Self.contract.bound self a
-    ///     → I.IntoFallibleIter.contract.bound (merge_right result) b → a + b ≤ k
+    ///     → I.IntoFallibleIter.contract.bound
+    ///     (sides.right_source (merge_parts result)) b → a + b ≤ k
     ///     → AtMost (seen_as merge_parts (merge_contract Self.Item.partial_cmp Self.contract
     ///     I.IntoFallibleIter.contract)) result k }
     /// ensures lists { OverBoth Self.contract.steps self I.into_gives other
@@ -1525,18 +1524,19 @@ pub trait FallibleItertools: FallibleIterator + Sized {
     ///
     /// ```text
     /// requires { (right : I.IntoFallibleIter) → I.into_gives other right
-    ///     → IsCallable (merge_by.call_on_two (call_at_two F.FnMut))
+    ///     → IsCallable (sides.call_on_two (call_at_two F.FnMut))
     ///     (λ g z. takes_at_two F.FnMut g z.0 z.1) (λ z. Self.contract.may_give self z.0
     ///     × I.IntoFallibleIter.contract.may_give right z.1) f }
-    /// ensures left { merge_by.merge_by_left result ≡ self }
-    /// ensures left_ended { merge_by.merge_by_left_ended result ≡ false }
-    /// ensures left_held { merge_by.merge_by_left_held result ≡ None }
-    /// ensures right { I.into_gives other (merge_by.merge_by_right result) }
-    /// ensures right_ended { merge_by.merge_by_right_ended result ≡ false }
-    /// ensures right_held { merge_by.merge_by_right_held result ≡ None }
-    /// ensures closure { merge_by.merge_by_closure result ≡ f }
+    /// ensures left { sides.left_source (merge_by.merge_by_parts result) ≡ self }
+    /// ensures left_ended { sides.left_ended (merge_by.merge_by_parts result) ≡ false }
+    /// ensures left_held { sides.left_item (merge_by.merge_by_parts result) ≡ None }
+    /// ensures right { I.into_gives other (sides.right_source (merge_by.merge_by_parts result)) }
+    /// ensures right_ended { sides.right_ended (merge_by.merge_by_parts result) ≡ false }
+    /// ensures right_held { sides.right_item (merge_by.merge_by_parts result) ≡ None }
+    /// ensures closure { sides.asked_closure (merge_by.merge_by_parts result) ≡ f }
     /// ensures bounded { (a b k : ℕ) → Self.contract.bound self a
-    ///     → I.IntoFallibleIter.contract.bound (merge_by.merge_by_right result) b → a + b ≤ k
+    ///     → I.IntoFallibleIter.contract.bound
+    ///     (sides.right_source (merge_by.merge_by_parts result)) b → a + b ≤ k
     ///     → AtMost (seen_as merge_by.merge_by_parts (merge_by.merge_by_contract Self.contract
     ///     I.IntoFallibleIter.contract F.FnMut)) result k }
     /// ensures lists { (h : Self.Item → Self.Item → Result Bool Self.Error)
@@ -1586,18 +1586,20 @@ pub trait FallibleItertools: FallibleIterator + Sized {
     ///
     /// ```text
     /// requires { (right : I.IntoFallibleIter) → I.into_gives other right
-    ///     → IsCallable (merge_by.call_on_two (join_by.call_at_both F.FnMut))
+    ///     → IsCallable (sides.call_on_two (join_by.call_at_both F.FnMut))
     ///     (λ g z. join_by.takes_at_both F.FnMut g z.0 z.1) (λ z. Self.contract.may_give self z.0
     ///     × I.IntoFallibleIter.contract.may_give right z.1) f }
-    /// ensures left { join_by.merge_join_by_left result ≡ self }
-    /// ensures left_ended { join_by.merge_join_by_left_ended result ≡ false }
-    /// ensures left_held { join_by.merge_join_by_left_held result ≡ None }
-    /// ensures right { I.into_gives other (join_by.merge_join_by_right result) }
-    /// ensures right_ended { join_by.merge_join_by_right_ended result ≡ false }
-    /// ensures right_held { join_by.merge_join_by_right_held result ≡ None }
-    /// ensures closure { join_by.merge_join_by_closure result ≡ f }
+    /// ensures left { sides.left_source (join_by.merge_join_by_parts result) ≡ self }
+    /// ensures left_ended { sides.left_ended (join_by.merge_join_by_parts result) ≡ false }
+    /// ensures left_held { sides.left_item (join_by.merge_join_by_parts result) ≡ None }
+    /// ensures right { I.into_gives other
+    ///     (sides.right_source (join_by.merge_join_by_parts result)) }
+    /// ensures right_ended { sides.right_ended (join_by.merge_join_by_parts result) ≡ false }
+    /// ensures right_held { sides.right_item (join_by.merge_join_by_parts result) ≡ None }
+    /// ensures closure { sides.asked_closure (join_by.merge_join_by_parts result) ≡ f }
     /// ensures bounded { (a b k : ℕ) → Self.contract.bound self a
-    ///     → I.IntoFallibleIter.contract.bound (join_by.merge_join_by_right result) b → a + b ≤ k
+    ///     → I.IntoFallibleIter.contract.bound
+    ///     (sides.right_source (join_by.merge_join_by_parts result)) b → a + b ≤ k
     ///     → AtMost (seen_as join_by.merge_join_by_parts (join_by.merge_join_by_contract
     ///     Self.contract I.IntoFallibleIter.contract F.FnMut)) result k }
     /// ensures lists { (h : Self.Item → I.Item → Result Ordering Self.Error)
@@ -1645,13 +1647,18 @@ pub trait FallibleItertools: FallibleIterator + Sized {
     /// As it is proved, in [these words](crate::words):
     ///
     /// ```text
-    /// ensures left { zip_longest.zip_longest_left result ≡ self }
-    /// ensures left_ended { zip_longest.zip_longest_left_ended result ≡ false }
-    /// ensures held { zip_longest.zip_longest_held result ≡ None }
-    /// ensures right { I.into_gives other (zip_longest.zip_longest_right result) }
-    /// ensures right_ended { zip_longest.zip_longest_right_ended result ≡ false }
+    /// ensures left { sides.left_source
+    ///     (zip_longest.zip_longest_parts {B = I.Item} result) ≡ self }
+    /// ensures left_ended { sides.left_ended
+    ///     (zip_longest.zip_longest_parts {B = I.Item} result) ≡ false }
+    /// ensures held { sides.left_item (zip_longest.zip_longest_parts {B = I.Item} result) ≡ None }
+    /// ensures right { I.into_gives other
+    ///     (sides.right_source (zip_longest.zip_longest_parts {B = I.Item} result)) }
+    /// ensures right_ended { sides.right_ended
+    ///     (zip_longest.zip_longest_parts {B = I.Item} result) ≡ false }
     /// ensures bounded { (a b k : ℕ) → Self.contract.bound self a
-    ///     → I.IntoFallibleIter.contract.bound (zip_longest.zip_longest_right result) b → a + b ≤ k
+    ///     → I.IntoFallibleIter.contract.bound
+    ///     (sides.right_source (zip_longest.zip_longest_parts {B = I.Item} result)) b → a + b ≤ k
     ///     → AtMost (seen_as zip_longest.zip_longest_parts
     ///     (zip_longest.zip_longest_contract Self.contract I.IntoFallibleIter.contract)) result k }
     /// ensures lists { OverBoth Self.contract.steps self I.into_gives other
@@ -1694,14 +1701,16 @@ pub trait FallibleItertools: FallibleIterator + Sized {
     ///
     /// ```text
     /// requires { IsCallable (call_of_none F.FnMut) (λ g _. F.pre g) (λ _. ⊤) unequal }
-    /// ensures left { zip_eq.zip_eq_left result ≡ self }
-    /// ensures left_ended { zip_eq.zip_eq_left_ended result ≡ false }
-    /// ensures held { zip_eq.zip_eq_held result ≡ None }
-    /// ensures right { I.into_gives other (zip_eq.zip_eq_right result) }
-    /// ensures right_ended { zip_eq.zip_eq_right_ended result ≡ false }
-    /// ensures closure { zip_eq.zip_eq_closure result ≡ unequal }
+    /// ensures left { sides.left_source (zip_eq.zip_eq_parts {B = I.Item} result) ≡ self }
+    /// ensures left_ended { sides.left_ended (zip_eq.zip_eq_parts {B = I.Item} result) ≡ false }
+    /// ensures held { sides.left_item (zip_eq.zip_eq_parts {B = I.Item} result) ≡ None }
+    /// ensures right { I.into_gives other
+    ///     (sides.right_source (zip_eq.zip_eq_parts {B = I.Item} result)) }
+    /// ensures right_ended { sides.right_ended (zip_eq.zip_eq_parts {B = I.Item} result) ≡ false }
+    /// ensures closure { sides.asked_closure (zip_eq.zip_eq_parts {B = I.Item} result) ≡ unequal }
     /// ensures bounded { (a b k : ℕ) → Self.contract.bound self a
-    ///     → I.IntoFallibleIter.contract.bound (zip_eq.zip_eq_right result) b → a + b ≤ k
+    ///     → I.IntoFallibleIter.contract.bound
+    ///     (sides.right_source (zip_eq.zip_eq_parts {B = I.Item} result)) b → a + b ≤ k
     ///     → AtMost (seen_as zip_eq.zip_eq_parts (zip_eq.zip_eq_contract Self.contract
     ///     I.IntoFallibleIter.contract F.FnMut)) result k }
     /// ensures lists { (e : Self.Error) → list.Acts (call_of_none F.FnMut) unequal (λ _. e)
@@ -3050,7 +3059,7 @@ pub trait FallibleItertools: FallibleIterator + Sized {
     ///
     /// ```text
     /// requires { 0 < n }
-    /// ensures parts { chunks_parts result ≡ (self, ((n, None), None)) }
+    /// ensures parts { chunks_parts result ≡ (self, (((n, None), tt), None)) }
     /// ensures lists { (l : List (Result Self.Item Self.Error))
     ///     → list.Lists Self.contract.steps self l
     ///     → ListsMade (λ xs v. vec_items v ≡ xs)
@@ -3087,7 +3096,10 @@ pub trait FallibleItertools: FallibleIterator + Sized {
     /// ```text
     /// requires callable { IsCallable (call_by_reference F.FnMut) (takes_by_reference F.FnMut)
     ///     (Self.contract.may_give self) key }
-    /// ensures parts { chunk_by_parts result ≡ (self, ((key, None), None)) }
+    /// ensures parts { chunk_by_parts result ≡ (self, ((None, key), None)) }
+    /// ensures callable { plan_can (puts_by_key Self.Error.from_gives K.eq F.FnMut)
+    ///     (chunk_by_plan K.eq) chunk_by_stops (takes_key F.FnMut) (MayMeet Self.contract self)
+    ///     (None, key) }
     /// ensures lists { (h : Self.Item → Result K Self.Error)
     ///     → (l : List (Result Self.Item Self.Error))
     ///     → list.Acts (call_by_reference F.FnMut) key h

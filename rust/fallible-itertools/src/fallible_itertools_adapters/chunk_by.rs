@@ -1,8 +1,10 @@
 // The adapter that yields groups of adjacent items with equal keys.
 
 use crate::base::Turn;
-use crate::base::{FirstTurn, Outcome, alone, pushed};
-use crate::fallible_itertools_adapters::holding::{Hold, drive_holding, with_held};
+use crate::base::{alone, pushed};
+use crate::fallible_itertools_adapters::staging::{
+    AnswerAndDue, Made, Stage, Stop, drive_stage, let_go, next_until, one, stopped, with_held,
+};
 use alloc::vec::Vec;
 use fallible_iterator::FallibleIterator;
 
@@ -11,8 +13,8 @@ use fallible_iterator::FallibleIterator;
 #[must_use = "an iterator draws nothing until it is asked"]
 pub struct ChunkBy<I: FallibleIterator, K, F> {
     pub(crate) it: I,
-    // the closure, and the buffered group, if there is one; and the stop that is due: `Ok(None)`, or a failure
-    pub(crate) stage: ((F, Option<(K, Vec<I::Item>)>), Option<Option<I::Error>>),
+    // the buffered group, if there is one, and the closure; and the stop that is due: `Ok(None)`, or a failure
+    pub(crate) stage: ((Option<(K, Vec<I::Item>)>, F), Option<Stop<I::Error>>),
 }
 
 impl<I: FallibleIterator, K, F> ChunkBy<I, K, F> {
@@ -21,7 +23,7 @@ impl<I: FallibleIterator, K, F> ChunkBy<I, K, F> {
     pub(crate) fn new(it: I, key: F) -> ChunkBy<I, K, F> {
         ChunkBy {
             it,
-            stage: ((key, None), None),
+            stage: ((None, key), None),
         }
     }
 }
@@ -36,8 +38,8 @@ impl<I: FallibleIterator, K: PartialEq, F: FnMut(&I::Item) -> Result<K, I::Error
         state: &mut C,
         turn: &T,
     ) -> Result<Option<R>, I::Error> {
-        let adapter = ChunkByHold;
-        drive_holding(&mut self.it, &mut self.stage, &adapter, state, turn)
+        let adapter = ChunkByStage;
+        drive_stage(&mut self.it, &mut self.stage, &adapter, state, turn)
     }
 }
 
@@ -50,13 +52,14 @@ impl<I: FallibleIterator, K: PartialEq, F: FnMut(&I::Item) -> Result<K, I::Error
 
     /// Returns the stop that is due, without a draw. Otherwise it draws until an item has another key than the buffered group, or a stop comes.
     fn next(&mut self) -> Result<Option<(K, Vec<I::Item>)>, I::Error> {
-        self.fold_by(&mut (), &FirstTurn)
+        let adapter = ChunkByStage;
+        next_until(&mut self.it, &mut self.stage, &adapter)
     }
 
     fn size_hint(&self) -> (usize, Option<usize>) {
         match self.stage.1 {
             Some(None) => (0, Some(0)),
-            _ => with_held(self.it.size_hint(), self.stage.0.1.is_some()),
+            _ => with_held(self.it.size_hint(), self.stage.0.0.is_some()),
         }
     }
 
@@ -64,59 +67,56 @@ impl<I: FallibleIterator, K: PartialEq, F: FnMut(&I::Item) -> Result<K, I::Error
 }
 
 // What becomes of an item after the buffered group.
-struct ChunkByHold;
+struct ChunkByStage;
 
-impl<X, K: PartialEq, E, F: FnMut(&X) -> Result<K, E>> Hold<(F, Option<(K, Vec<X>)>), X, E>
-    for ChunkByHold
+impl<X, K: PartialEq, E, F: FnMut(&X) -> Result<K, E>> Stage<(Option<(K, Vec<X>)>, F), X, E>
+    for ChunkByStage
 {
     type Kept = (K, Vec<X>);
 
+    type Due = Stop<E>;
+
     #[inline(always)]
-    fn ask(
-        &self,
-        holds: &mut (F, Option<(K, Vec<X>)>),
-        asked: Option<X>,
-    ) -> Outcome<(K, Vec<X>), E> {
-        match asked {
-            Some(x) => {
-                let key = (holds.0)(&x);
-                grouped(&mut holds.1, x, key)
-            }
-            None => stopped(&mut holds.1),
+    fn on_item(&self, p: &mut (Option<(K, Vec<X>)>, F), item: X) -> Made<(K, Vec<X>), Stop<E>, E> {
+        match (p.1)(&item) {
+            Ok(key) => grouped(&mut p.0, key, item),
+            Err(e) => let_go(p.0.take(), Some(e)),
         }
+    }
+
+    #[inline(always)]
+    fn on_stop(
+        &self,
+        p: &mut (Option<(K, Vec<X>)>, F),
+        stop: Stop<E>,
+    ) -> Made<(K, Vec<X>), Stop<E>, E> {
+        let_go(p.0.take(), stop)
+    }
+
+    #[inline(always)]
+    fn answer_due(&self, due: Stop<E>) -> AnswerAndDue<(K, Vec<X>), Stop<E>, E> {
+        (stopped(due), None)
     }
 }
 
-// What becomes of an item by its key. A new group has room for as many items as the one that it follows, up to 1024.
+// What becomes of an item of that key. A new group has room for as many items as the one that it follows, up to 1024.
 fn grouped<X, K: PartialEq, E>(
     group: &mut Option<(K, Vec<X>)>,
+    key: K,
     item: X,
-    key: Result<K, E>,
-) -> Outcome<(K, Vec<X>), E> {
-    let key = match key {
-        Ok(key) => key,
-        Err(e) => return Outcome::Failure(e),
-    };
+) -> Made<(K, Vec<X>), Stop<E>, E> {
     let room = match group {
         Some((of, items)) => {
             if *of == key {
                 pushed(items, item);
-                return Outcome::LeftOut;
+                return None;
             }
             items.len()
         }
         None => 0,
     };
     match group.replace((key, alone(room, item))) {
-        Some(whole) => Outcome::Kept(whole),
-        None => Outcome::LeftOut,
-    }
-}
-
-// What becomes of a stop.
-fn stopped<X, K, E>(group: &mut Option<(K, Vec<X>)>) -> Outcome<(K, Vec<X>), E> {
-    match group.take() {
-        Some(group) => Outcome::Kept(group),
-        None => Outcome::End,
+        Some(whole) => one(Ok(Some(whole))),
+        None => None,
     }
 }

@@ -1,8 +1,10 @@
 // The adapter that yields batches of items.
 
 use crate::base::Turn;
-use crate::base::{Outcome, alone, pushed};
-use crate::fallible_itertools_adapters::holding::{Hold, at_stop, drive_holding, with_held};
+use crate::base::{alone, pushed};
+use crate::fallible_itertools_adapters::staging::{
+    AnswerAndDue, Made, Stage, Stop, drive_stage, let_go, made_of, one, put_due, stopped, with_held,
+};
 use alloc::vec::Vec;
 use fallible_iterator::FallibleIterator;
 
@@ -12,7 +14,7 @@ use fallible_iterator::FallibleIterator;
 pub struct Chunks<I: FallibleIterator> {
     pub(crate) it: I,
     // how many items a batch has, and the buffered batch, if it has any; and the stop that is due: `Ok(None)`, or a failure
-    pub(crate) stage: ((usize, Option<Vec<I::Item>>), Option<Option<I::Error>>),
+    pub(crate) stage: (((usize, Option<Vec<I::Item>>), ()), Option<Stop<I::Error>>),
 }
 
 impl<I: FallibleIterator> Chunks<I> {
@@ -22,7 +24,7 @@ impl<I: FallibleIterator> Chunks<I> {
         assert!(n != 0);
         Chunks {
             it,
-            stage: ((n, None), None),
+            stage: (((n, None), ()), None),
         }
     }
 }
@@ -35,8 +37,8 @@ impl<I: FallibleIterator> Chunks<I> {
         state: &mut C,
         turn: &K,
     ) -> Result<Option<R>, I::Error> {
-        let adapter = ChunksHold;
-        drive_holding(&mut self.it, &mut self.stage, &adapter, state, turn)
+        let adapter = ChunksStage;
+        drive_stage(&mut self.it, &mut self.stage, &adapter, state, turn)
     }
 }
 
@@ -48,11 +50,12 @@ impl<I: FallibleIterator> FallibleIterator for Chunks<I> {
     /// Returns the stop that is due, without a draw. Otherwise it draws until the batch has n items, or a stop comes.
     fn next(&mut self) -> Result<Option<Vec<I::Item>>, I::Error> {
         match self.stage.1.take() {
-            Some(Some(e)) => Err(e),
-            Some(None) => Ok(None),
+            Some(stop) => stopped(stop),
             None => {
-                let adapter = ChunksHold;
-                filled(&mut self.it, &mut self.stage.0, &mut self.stage.1, &adapter)
+                let adapter = ChunksStage;
+                let (answer, due) = filled(&mut self.it, &mut self.stage.0, &adapter);
+                put_due(&mut self.stage.1, due);
+                answer
             }
         }
     }
@@ -62,8 +65,8 @@ impl<I: FallibleIterator> FallibleIterator for Chunks<I> {
             Some(None) => (0, Some(0)),
             _ => {
                 let hint = self.it.size_hint();
-                let low = batches(hint.0, self.stage.0.0, &self.stage.0.1);
-                (low, with_held(hint, self.stage.0.1.is_some()).1)
+                let low = batches(hint.0, self.stage.0.0.0, &self.stage.0.0.1);
+                (low, with_held(hint, self.stage.0.0.1.is_some()).1)
             }
         }
     }
@@ -71,45 +74,52 @@ impl<I: FallibleIterator> FallibleIterator for Chunks<I> {
     crate::base::by_drive!(drive);
 }
 
-// Draws until a batch is full or a stop comes: at most as often as a batch has items. No stop is due.
+// Draws until a batch is full or a stop comes, at most as often as a batch has items: the answer, and what is due after it. Nothing is due before.
 fn filled<I: FallibleIterator>(
     it: &mut I,
-    batch: &mut (usize, Option<Vec<I::Item>>),
-    due: &mut Option<Option<I::Error>>,
-    adapter: &ChunksHold,
-) -> Result<Option<Vec<I::Item>>, I::Error> {
+    held: &mut ((usize, Option<Vec<I::Item>>), ()),
+    adapter: &ChunksStage,
+) -> AnswerAndDue<Vec<I::Item>, Stop<I::Error>, I::Error> {
     loop {
-        match it.next() {
-            Ok(Some(x)) => match adapter.ask(batch, Some(x)) {
-                Outcome::Kept(whole) => return Ok(Some(whole)),
-                Outcome::LeftOut => {}
-                Outcome::Failure(e) => return at_stop(Some(e), batch, due, adapter),
-                Outcome::End => unreachable!(),
-            },
-            Ok(None) => return at_stop(None, batch, due, adapter),
-            Err(e) => return at_stop(Some(e), batch, due, adapter),
+        match made_of(it.next(), held, adapter) {
+            Some(made) => return made,
+            None => {}
         }
     }
 }
 
 // What becomes of an item after the buffered batch.
-struct ChunksHold;
+struct ChunksStage;
 
-impl<X, E> Hold<(usize, Option<Vec<X>>), X, E> for ChunksHold {
+impl<X, E> Stage<((usize, Option<Vec<X>>), ()), X, E> for ChunksStage {
     type Kept = Vec<X>;
 
+    type Due = Stop<E>;
+
     #[inline(always)]
-    fn ask(&self, holds: &mut (usize, Option<Vec<X>>), asked: Option<X>) -> Outcome<Vec<X>, E> {
-        match asked {
-            Some(x) => {
-                if grown(holds.0, &mut holds.1, x) < holds.0 {
-                    Outcome::LeftOut
-                } else {
-                    let_go(&mut holds.1)
-                }
+    fn on_item(&self, p: &mut ((usize, Option<Vec<X>>), ()), item: X) -> Made<Vec<X>, Stop<E>, E> {
+        if grown(p.0.0, &mut p.0.1, item) < p.0.0 {
+            None
+        } else {
+            match p.0.1.take() {
+                Some(whole) => one(Ok(Some(whole))),
+                None => unreachable!(),
             }
-            None => let_go(&mut holds.1),
         }
+    }
+
+    #[inline(always)]
+    fn on_stop(
+        &self,
+        p: &mut ((usize, Option<Vec<X>>), ()),
+        stop: Stop<E>,
+    ) -> Made<Vec<X>, Stop<E>, E> {
+        let_go(p.0.1.take(), stop)
+    }
+
+    #[inline(always)]
+    fn answer_due(&self, due: Stop<E>) -> AnswerAndDue<Vec<X>, Stop<E>, E> {
+        (stopped(due), None)
     }
 }
 
@@ -127,15 +137,6 @@ fn grown<X>(n: usize, held: &mut Option<Vec<X>>, item: X) -> usize {
             *held = Some(batch);
             count
         }
-    }
-}
-
-// What becomes of the buffered batch at a stop, or once it is full: it is yielded, if there is one.
-#[inline(always)]
-fn let_go<X, E>(held: &mut Option<Vec<X>>) -> Outcome<Vec<X>, E> {
-    match held.take() {
-        Some(batch) => Outcome::Kept(batch),
-        None => Outcome::End,
     }
 }
 

@@ -1,8 +1,9 @@
 // The adapter that merges adjacent items.
 
 use crate::base::Turn;
-use crate::base::{FirstTurn, Outcome};
-use crate::fallible_itertools_adapters::holding::{Hold, drive_holding, with_held};
+use crate::fallible_itertools_adapters::staging::{
+    AnswerAndDue, Made, Stage, Stop, drive_stage, let_go, next_until, one, stopped, with_held,
+};
 use fallible_iterator::FallibleIterator;
 
 /// Adjacent items, merged where the closure makes one of two. The item merged so far is buffered until the closure keeps two apart, or a stop comes: `Ok(None)` or a failure, which the next call returns.
@@ -11,7 +12,7 @@ use fallible_iterator::FallibleIterator;
 pub struct Coalesce<I: FallibleIterator, F> {
     pub(crate) it: I,
     // the buffered item, and the closure; and the stop that is due: `Ok(None)`, or a failure
-    pub(crate) stage: ((Option<I::Item>, F), Option<Option<I::Error>>),
+    pub(crate) stage: ((Option<I::Item>, F), Option<Stop<I::Error>>),
 }
 
 impl<I: FallibleIterator, F> Coalesce<I, F> {
@@ -37,7 +38,7 @@ impl<
         state: &mut C,
         turn: &K,
     ) -> Result<Option<R>, I::Error> {
-        drive_holding(&mut self.it, &mut self.stage, &CoalesceHold, state, turn)
+        drive_stage(&mut self.it, &mut self.stage, &CoalesceStage, state, turn)
     }
 }
 
@@ -52,7 +53,7 @@ impl<
 
     /// Returns the stop that is due, without a draw. Otherwise it draws until the closure keeps two items apart, or a stop comes.
     fn next(&mut self) -> Result<Option<I::Item>, I::Error> {
-        self.fold_by(&mut (), &FirstTurn)
+        next_until(&mut self.it, &mut self.stage, &CoalesceStage)
     }
 
     fn size_hint(&self) -> (usize, Option<usize>) {
@@ -66,33 +67,47 @@ impl<
 }
 
 // What the closure makes of the buffered item and the next one.
-struct CoalesceHold;
+struct CoalesceStage;
 
-impl<X, E, F: FnMut(X, X) -> Result<Result<X, (X, X)>, E>> Hold<(Option<X>, F), X, E>
-    for CoalesceHold
+impl<X, E, F: FnMut(X, X) -> Result<Result<X, (X, X)>, E>> Stage<(Option<X>, F), X, E>
+    for CoalesceStage
 {
     type Kept = X;
 
+    type Due = Stop<E>;
+
     #[inline(always)]
-    fn ask(&self, holds: &mut (Option<X>, F), asked: Option<X>) -> Outcome<X, E> {
-        match (holds.0.take(), asked) {
-            (None, Some(x)) => {
-                holds.0 = Some(x);
-                Outcome::LeftOut
+    fn on_item(&self, p: &mut (Option<X>, F), item: X) -> Made<X, Stop<E>, E> {
+        match p.0.take() {
+            None => {
+                p.0 = Some(item);
+                None
             }
-            (Some(first), Some(x)) => match (holds.1)(first, x) {
-                Ok(Ok(one)) => {
-                    holds.0 = Some(one);
-                    Outcome::LeftOut
-                }
-                Ok(Err((first, second))) => {
-                    holds.0 = Some(second);
-                    Outcome::Kept(first)
-                }
-                Err(e) => Outcome::Failure(e),
-            },
-            (Some(first), None) => Outcome::Kept(first),
-            (None, None) => Outcome::End,
+            Some(first) => {
+                let (kept, made) = by_answer((p.1)(first, item));
+                p.0 = kept;
+                made
+            }
         }
+    }
+
+    #[inline(always)]
+    fn on_stop(&self, p: &mut (Option<X>, F), stop: Stop<E>) -> Made<X, Stop<E>, E> {
+        let_go(p.0.take(), stop)
+    }
+
+    #[inline(always)]
+    fn answer_due(&self, due: Stop<E>) -> AnswerAndDue<X, Stop<E>, E> {
+        (stopped(due), None)
+    }
+}
+
+// What is buffered of the two items then, and what is made.
+#[inline(always)]
+fn by_answer<X, E>(answer: Result<Result<X, (X, X)>, E>) -> (Option<X>, Made<X, Stop<E>, E>) {
+    match answer {
+        Ok(Ok(both)) => (Some(both), None),
+        Ok(Err((first, second))) => (Some(second), one(Ok(Some(first)))),
+        Err(e) => (None, one(Err(e))),
     }
 }

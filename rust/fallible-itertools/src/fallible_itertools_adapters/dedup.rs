@@ -1,9 +1,10 @@
 // The adapter that yields the first of adjacent equal items.
 
-use crate::base::Outcome;
 use crate::base::Turn;
-use crate::fallible_itertools_adapters::holding::{Hold, at_stop, drive_holding, with_held};
-use crate::fallible_itertools_adapters::staging::stopped;
+use crate::fallible_itertools_adapters::staging::{
+    AnswerAndDue, Made, Stage, Stop, drawn_until, drive_stage, let_go, one, put_due, stopped,
+    with_held,
+};
 use fallible_iterator::FallibleIterator;
 
 /// The first of adjacent equal items. It is buffered until an item that differs comes, or a stop: `Ok(None)` or a failure, which the next call returns.
@@ -12,7 +13,7 @@ use fallible_iterator::FallibleIterator;
 pub struct Dedup<I: FallibleIterator> {
     pub(crate) it: I,
     // the first of equal items, which wasn't yielded yet; and the stop that is due: `Ok(None)`, or a failure
-    pub(crate) stage: (Option<I::Item>, Option<Option<I::Error>>),
+    pub(crate) stage: ((Option<I::Item>, ()), Option<Stop<I::Error>>),
 }
 
 impl<I: FallibleIterator> Dedup<I> {
@@ -21,7 +22,7 @@ impl<I: FallibleIterator> Dedup<I> {
     pub(crate) fn new(it: I) -> Dedup<I> {
         Dedup {
             it,
-            stage: (None, None),
+            stage: ((None, ()), None),
         }
     }
 }
@@ -37,7 +38,7 @@ where
         state: &mut C,
         turn: &K,
     ) -> Result<Option<R>, I::Error> {
-        drive_holding(&mut self.it, &mut self.stage, &DedupHold, state, turn)
+        drive_stage(&mut self.it, &mut self.stage, &DedupStage, state, turn)
     }
 }
 
@@ -53,80 +54,58 @@ where
     fn next(&mut self) -> Result<Option<I::Item>, I::Error> {
         match self.stage.1.take() {
             Some(stop) => stopped(stop),
-            None => differing(&mut self.it, &mut self.stage.0, &mut self.stage.1),
+            None => {
+                // in a local, so that a compiler keeps it in a register
+                let mut held = (self.stage.0.0.take(), ());
+                let (answer, due) = drawn_until(&mut self.it, &mut held, &DedupStage);
+                self.stage.0.0 = held.0;
+                put_due(&mut self.stage.1, due);
+                answer
+            }
         }
     }
 
     fn size_hint(&self) -> (usize, Option<usize>) {
         match self.stage.1 {
             Some(None) => (0, Some(0)),
-            _ => with_held(self.it.size_hint(), self.stage.0.is_some()),
+            _ => with_held(self.it.size_hint(), self.stage.0.0.is_some()),
         }
     }
 
     crate::base::by_drive!(drive);
 }
 
-// Draws until an item differs from the buffered one, or a stop comes. No stop is due. What is buffered stands in a local, so that a compiler keeps it in a register.
-fn differing<I: FallibleIterator>(
-    it: &mut I,
-    held: &mut Option<I::Item>,
-    due: &mut Option<Option<I::Error>>,
-) -> Result<Option<I::Item>, I::Error>
-where
-    I::Item: PartialEq,
-{
-    let mut first = held.take();
-    loop {
-        match it.next() {
-            Ok(Some(x)) => match DedupHold.ask(&mut first, Some(x)) {
-                Outcome::Kept(y) => {
-                    *held = first;
-                    return Ok(Some(y));
-                }
-                Outcome::LeftOut => {}
-                Outcome::Failure(e) => {
-                    *held = first;
-                    return at_stop(Some(e), held, due, &DedupHold);
-                }
-                Outcome::End => unreachable!(),
-            },
-            Ok(None) => {
-                *held = first;
-                return at_stop(None, held, due, &DedupHold);
-            }
-            Err(e) => {
-                *held = first;
-                return at_stop(Some(e), held, due, &DedupHold);
-            }
-        }
-    }
-}
-
 // What becomes of an item after the buffered one.
-struct DedupHold;
+struct DedupStage;
 
-impl<X: PartialEq, E> Hold<Option<X>, X, E> for DedupHold {
+impl<X: PartialEq, E> Stage<(Option<X>, ()), X, E> for DedupStage {
     type Kept = X;
 
+    type Due = Stop<E>;
+
     #[inline(always)]
-    fn ask(&self, holds: &mut Option<X>, asked: Option<X>) -> Outcome<X, E> {
-        match (holds.take(), asked) {
-            (None, Some(x)) => {
-                *holds = Some(x);
-                Outcome::LeftOut
-            }
-            (Some(first), Some(x)) => {
-                if first == x {
-                    *holds = Some(first);
-                    Outcome::LeftOut
+    fn on_item(&self, p: &mut (Option<X>, ()), item: X) -> Made<X, Stop<E>, E> {
+        let (kept, made) = match p.0.take() {
+            None => (item, None),
+            Some(first) => {
+                if first == item {
+                    (first, None)
                 } else {
-                    *holds = Some(x);
-                    Outcome::Kept(first)
+                    (item, one(Ok(Some(first))))
                 }
             }
-            (Some(first), None) => Outcome::Kept(first),
-            (None, None) => Outcome::End,
-        }
+        };
+        p.0 = Some(kept);
+        made
+    }
+
+    #[inline(always)]
+    fn on_stop(&self, p: &mut (Option<X>, ()), stop: Stop<E>) -> Made<X, Stop<E>, E> {
+        let_go(p.0.take(), stop)
+    }
+
+    #[inline(always)]
+    fn answer_due(&self, due: Stop<E>) -> AnswerAndDue<X, Stop<E>, E> {
+        (stopped(due), None)
     }
 }

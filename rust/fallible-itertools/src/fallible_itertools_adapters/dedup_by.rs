@@ -1,8 +1,9 @@
 //! The adapter that yields the first of adjacent items that a closure finds the same.
 
 use crate::base::Turn;
-use crate::base::{FirstTurn, Outcome};
-use crate::fallible_itertools_adapters::holding::{Hold, drive_holding, with_held};
+use crate::fallible_itertools_adapters::staging::{
+    AnswerAndDue, Made, Stage, Stop, drive_stage, let_go, next_until, one, stopped, with_held,
+};
 use fallible_iterator::FallibleIterator;
 
 /// The first of adjacent items that the closure finds the same. It is buffered until an item that differs comes, or a stop: `Ok(None)` or a failure, which the next call returns. The closure's failure is a stop.
@@ -11,7 +12,7 @@ use fallible_iterator::FallibleIterator;
 pub struct DedupBy<I: FallibleIterator, F> {
     pub(crate) it: I,
     // the first of items that are the same, which wasn't yielded yet, and the closure; and the stop that is due: `Ok(None)`, or a failure
-    pub(crate) stage: ((Option<I::Item>, F), Option<Option<I::Error>>),
+    pub(crate) stage: ((Option<I::Item>, F), Option<Stop<I::Error>>),
 }
 
 impl<I: FallibleIterator, F> DedupBy<I, F> {
@@ -33,7 +34,7 @@ impl<I: FallibleIterator, F: FnMut(&I::Item, &I::Item) -> Result<bool, I::Error>
         state: &mut C,
         turn: &K,
     ) -> Result<Option<R>, I::Error> {
-        drive_holding(&mut self.it, &mut self.stage, &SameHold, state, turn)
+        drive_stage(&mut self.it, &mut self.stage, &SameStage, state, turn)
     }
 }
 
@@ -46,7 +47,7 @@ impl<I: FallibleIterator, F: FnMut(&I::Item, &I::Item) -> Result<bool, I::Error>
 
     /// Returns the stop that is due, without a draw. Otherwise it draws until an item differs from the buffered one, or a stop comes.
     fn next(&mut self) -> Result<Option<I::Item>, I::Error> {
-        self.fold_by(&mut (), &FirstTurn)
+        next_until(&mut self.it, &mut self.stage, &SameStage)
     }
 
     fn size_hint(&self) -> (usize, Option<usize>) {
@@ -60,34 +61,46 @@ impl<I: FallibleIterator, F: FnMut(&I::Item, &I::Item) -> Result<bool, I::Error>
 }
 
 // What becomes of an item after the buffered one, by what the closure returns on the two.
-struct SameHold;
+struct SameStage;
 
-impl<X, E, F: FnMut(&X, &X) -> Result<bool, E>> Hold<(Option<X>, F), X, E> for SameHold {
+impl<X, E, F: FnMut(&X, &X) -> Result<bool, E>> Stage<(Option<X>, F), X, E> for SameStage {
     type Kept = X;
 
+    type Due = Stop<E>;
+
     #[inline(always)]
-    fn ask(&self, holds: &mut (Option<X>, F), asked: Option<X>) -> Outcome<X, E> {
-        match (holds.0.take(), asked) {
-            (None, Some(x)) => {
-                holds.0 = Some(x);
-                Outcome::LeftOut
+    fn on_item(&self, p: &mut (Option<X>, F), item: X) -> Made<X, Stop<E>, E> {
+        match p.0.take() {
+            None => {
+                p.0 = Some(item);
+                None
             }
-            (Some(first), Some(x)) => match (holds.1)(&first, &x) {
-                Ok(true) => {
-                    holds.0 = Some(first);
-                    Outcome::LeftOut
-                }
-                Ok(false) => {
-                    holds.0 = Some(x);
-                    Outcome::Kept(first)
-                }
-                Err(e) => {
-                    holds.0 = Some(first);
-                    Outcome::Failure(e)
-                }
-            },
-            (Some(first), None) => Outcome::Kept(first),
-            (None, None) => Outcome::End,
+            Some(first) => {
+                let same = (p.1)(&first, &item);
+                let (kept, made) = by_same(first, item, same);
+                p.0 = kept;
+                made
+            }
         }
+    }
+
+    #[inline(always)]
+    fn on_stop(&self, p: &mut (Option<X>, F), stop: Stop<E>) -> Made<X, Stop<E>, E> {
+        let_go(p.0.take(), stop)
+    }
+
+    #[inline(always)]
+    fn answer_due(&self, due: Stop<E>) -> AnswerAndDue<X, Stop<E>, E> {
+        (stopped(due), None)
+    }
+}
+
+// What is buffered of the two items then, and what is made.
+#[inline(always)]
+fn by_same<X, E>(first: X, item: X, same: Result<bool, E>) -> (Option<X>, Made<X, Stop<E>, E>) {
+    match same {
+        Ok(true) => (Some(first), None),
+        Ok(false) => (Some(item), one(Ok(Some(first)))),
+        Err(e) => (None, let_go(Some(first), Some(e))),
     }
 }

@@ -1,8 +1,9 @@
 // The adapter that yields the first of adjacent items with equal keys.
 
 use crate::base::Turn;
-use crate::base::{FirstTurn, Outcome};
-use crate::fallible_itertools_adapters::holding::{Hold, drive_holding, with_held};
+use crate::fallible_itertools_adapters::staging::{
+    AnswerAndDue, Made, Stage, Stop, drive_stage, let_go, next_until, one, stopped, with_held,
+};
 use fallible_iterator::FallibleIterator;
 
 /// The first of adjacent items with equal keys. It is buffered, with its key, until an item with another key comes, or a stop, which the next call returns.
@@ -11,7 +12,7 @@ use fallible_iterator::FallibleIterator;
 pub struct DedupByKey<I: FallibleIterator, K, F> {
     pub(crate) it: I,
     // the buffered item with its key, and the closure; and the stop that is due: `Ok(None)`, or a failure
-    pub(crate) stage: ((Option<(K, I::Item)>, F), Option<Option<I::Error>>),
+    pub(crate) stage: ((Option<(K, I::Item)>, F), Option<Stop<I::Error>>),
 }
 
 impl<I: FallibleIterator, K, F> DedupByKey<I, K, F> {
@@ -35,7 +36,7 @@ impl<I: FallibleIterator, K: PartialEq, F: FnMut(&I::Item) -> Result<K, I::Error
         state: &mut C,
         turn: &T,
     ) -> Result<Option<R>, I::Error> {
-        drive_holding(&mut self.it, &mut self.stage, &KeyHold, state, turn)
+        drive_stage(&mut self.it, &mut self.stage, &KeyStage, state, turn)
     }
 }
 
@@ -48,7 +49,7 @@ impl<I: FallibleIterator, K: PartialEq, F: FnMut(&I::Item) -> Result<K, I::Error
 
     /// Returns the stop that is due, without a draw. Otherwise it draws until an item has another key than the buffered one, or a stop comes.
     fn next(&mut self) -> Result<Option<I::Item>, I::Error> {
-        self.fold_by(&mut (), &FirstTurn)
+        next_until(&mut self.it, &mut self.stage, &KeyStage)
     }
 
     fn size_hint(&self) -> (usize, Option<usize>) {
@@ -62,41 +63,59 @@ impl<I: FallibleIterator, K: PartialEq, F: FnMut(&I::Item) -> Result<K, I::Error
 }
 
 // What becomes of an item by its key.
-struct KeyHold;
+struct KeyStage;
 
-impl<X, E, K: PartialEq, F: FnMut(&X) -> Result<K, E>> Hold<(Option<(K, X)>, F), X, E> for KeyHold {
+impl<X, E, K: PartialEq, F: FnMut(&X) -> Result<K, E>> Stage<(Option<(K, X)>, F), X, E>
+    for KeyStage
+{
     type Kept = X;
 
+    type Due = Stop<E>;
+
     #[inline(always)]
-    fn ask(&self, holds: &mut (Option<(K, X)>, F), asked: Option<X>) -> Outcome<X, E> {
-        match asked {
-            Some(x) => match (holds.1)(&x) {
-                Ok(key) => beside(&mut holds.0, key, x),
-                Err(e) => Outcome::Failure(e),
-            },
-            None => match holds.0.take() {
-                Some((_key, first)) => Outcome::Kept(first),
-                None => Outcome::End,
-            },
-        }
+    fn on_item(&self, p: &mut (Option<(K, X)>, F), item: X) -> Made<X, Stop<E>, E> {
+        let key = (p.1)(&item);
+        let (kept, made) = by_key(p.0.take(), item, key);
+        p.0 = kept;
+        made
+    }
+
+    #[inline(always)]
+    fn on_stop(&self, p: &mut (Option<(K, X)>, F), stop: Stop<E>) -> Made<X, Stop<E>, E> {
+        let_go(item_of(p.0.take()), stop)
+    }
+
+    #[inline(always)]
+    fn answer_due(&self, due: Stop<E>) -> AnswerAndDue<X, Stop<E>, E> {
+        (stopped(due), None)
     }
 }
 
-// An item with its key after the buffered one, if there is one.
-fn beside<X, E, K: PartialEq>(held: &mut Option<(K, X)>, key: K, x: X) -> Outcome<X, E> {
-    match held.take() {
-        Some((first_key, first)) => {
+// The item without its key.
+#[inline(always)]
+fn item_of<X, K>(held: Option<(K, X)>) -> Option<X> {
+    match held {
+        Some((_key, item)) => Some(item),
+        None => None,
+    }
+}
+
+// What is buffered then, and what is made, by the key of the next item.
+#[inline(always)]
+fn by_key<X, E, K: PartialEq>(
+    held: Option<(K, X)>,
+    item: X,
+    key: Result<K, E>,
+) -> (Option<(K, X)>, Made<X, Stop<E>, E>) {
+    match (key, held) {
+        (Err(e), held) => (None, let_go(item_of(held), Some(e))),
+        (Ok(key), None) => (Some((key, item)), None),
+        (Ok(key), Some((first_key, first))) => {
             if first_key == key {
-                *held = Some((first_key, first));
-                Outcome::LeftOut
+                (Some((first_key, first)), None)
             } else {
-                *held = Some((key, x));
-                Outcome::Kept(first)
+                (Some((key, item)), one(Ok(Some(first))))
             }
-        }
-        None => {
-            *held = Some((key, x));
-            Outcome::LeftOut
         }
     }
 }

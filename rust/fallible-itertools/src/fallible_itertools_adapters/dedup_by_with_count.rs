@@ -1,8 +1,10 @@
 //! The adapter that yields the first of adjacent items that a closure finds the same beside their number.
 
 use crate::base::Turn;
-use crate::base::{FirstTurn, Outcome};
-use crate::fallible_itertools_adapters::holding::{Hold, drive_holding, with_held};
+use crate::fallible_itertools_adapters::staging::{
+    AnswerAndDue, Made, Stage, Stop, drive_stage, let_go, next_until, one, stopped, with_held,
+};
+use core::mem::replace;
 use fallible_iterator::FallibleIterator;
 
 /// The first of adjacent items that the closure finds the same beside their number. It is buffered until an item that differs comes, or a stop: `Ok(None)` or a failure, which the next call returns. The closure's failure is a stop.
@@ -11,7 +13,7 @@ use fallible_iterator::FallibleIterator;
 pub struct DedupByWithCount<I: FallibleIterator, F> {
     pub(crate) it: I,
     // the number of items that are the same so far and the first of them, which wasn't yielded yet, and the closure; and the stop that is due: `Ok(None)`, or a failure
-    pub(crate) stage: ((Option<(usize, I::Item)>, F), Option<Option<I::Error>>),
+    pub(crate) stage: ((Option<(usize, I::Item)>, F), Option<Stop<I::Error>>),
 }
 
 impl<I: FallibleIterator, F> DedupByWithCount<I, F> {
@@ -35,7 +37,7 @@ impl<I: FallibleIterator, F: FnMut(&I::Item, &I::Item) -> Result<bool, I::Error>
         state: &mut C,
         turn: &K,
     ) -> Result<Option<R>, I::Error> {
-        drive_holding(&mut self.it, &mut self.stage, &SameCountHold, state, turn)
+        drive_stage(&mut self.it, &mut self.stage, &SameCount, state, turn)
     }
 }
 
@@ -48,7 +50,7 @@ impl<I: FallibleIterator, F: FnMut(&I::Item, &I::Item) -> Result<bool, I::Error>
 
     /// Returns the stop that is due, without a draw. Otherwise it draws until an item differs from the buffered one, or a stop comes.
     fn next(&mut self) -> Result<Option<(usize, I::Item)>, I::Error> {
-        self.fold_by(&mut (), &FirstTurn)
+        next_until(&mut self.it, &mut self.stage, &SameCount)
     }
 
     fn size_hint(&self) -> (usize, Option<usize>) {
@@ -61,37 +63,46 @@ impl<I: FallibleIterator, F: FnMut(&I::Item, &I::Item) -> Result<bool, I::Error>
     crate::base::by_drive!(drive);
 }
 
-// What becomes of an item after the buffered one, by what the closure returns on the two.
-struct SameCountHold;
+// An item is counted if the closure finds it the same as the buffered one.
+struct SameCount;
 
-impl<X, E, F: FnMut(&X, &X) -> Result<bool, E>> Hold<(Option<(usize, X)>, F), X, E>
-    for SameCountHold
-{
+impl<X, E, F: FnMut(&X, &X) -> Result<bool, E>> Stage<(Option<(usize, X)>, F), X, E> for SameCount {
     type Kept = (usize, X);
 
+    type Due = Stop<E>;
+
     #[inline(always)]
-    fn ask(&self, holds: &mut (Option<(usize, X)>, F), asked: Option<X>) -> Outcome<(usize, X), E> {
-        match (holds.0.take(), asked) {
-            (None, Some(x)) => {
-                holds.0 = Some((1, x));
-                Outcome::LeftOut
+    fn on_item(&self, p: &mut (Option<(usize, X)>, F), item: X) -> Made<(usize, X), Stop<E>, E> {
+        match &mut p.0 {
+            None => {
+                p.0 = Some((1, item));
+                None
             }
-            (Some((count, first)), Some(x)) => match (holds.1)(&first, &x) {
+            Some((count, first)) => match (p.1)(first, &item) {
                 Ok(true) => {
-                    holds.0 = Some((count.saturating_add(1), first));
-                    Outcome::LeftOut
+                    *count = count.saturating_add(1);
+                    None
                 }
-                Ok(false) => {
-                    holds.0 = Some((1, x));
-                    Outcome::Kept((count, first))
-                }
-                Err(e) => {
-                    holds.0 = Some((count, first));
-                    Outcome::Failure(e)
-                }
+                Ok(false) => match replace(&mut p.0, Some((1, item))) {
+                    Some(run) => one(Ok(Some(run))),
+                    None => None,
+                },
+                Err(e) => let_go(p.0.take(), Some(e)),
             },
-            (Some(first), None) => Outcome::Kept(first),
-            (None, None) => Outcome::End,
         }
+    }
+
+    #[inline(always)]
+    fn on_stop(
+        &self,
+        p: &mut (Option<(usize, X)>, F),
+        stop: Stop<E>,
+    ) -> Made<(usize, X), Stop<E>, E> {
+        let_go(p.0.take(), stop)
+    }
+
+    #[inline(always)]
+    fn answer_due(&self, due: Stop<E>) -> AnswerAndDue<(usize, X), Stop<E>, E> {
+        (stopped(due), None)
     }
 }

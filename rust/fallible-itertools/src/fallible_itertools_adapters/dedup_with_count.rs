@@ -1,8 +1,10 @@
 //! The adapter that yields the first of adjacent equal items beside their number.
 
 use crate::base::Turn;
-use crate::base::{FirstTurn, Outcome};
-use crate::fallible_itertools_adapters::holding::{Hold, drive_holding, with_held};
+use crate::fallible_itertools_adapters::staging::{
+    AnswerAndDue, Made, Stage, Stop, drive_stage, let_go, next_until, one, stopped, with_held,
+};
+use core::mem::replace;
 use fallible_iterator::FallibleIterator;
 
 /// The first of adjacent equal items beside their number. It is buffered until an item that differs comes, or a stop: `Ok(None)` or a failure, which the next call returns.
@@ -11,7 +13,7 @@ use fallible_iterator::FallibleIterator;
 pub struct DedupWithCount<I: FallibleIterator> {
     pub(crate) it: I,
     // the number of equal items so far and the first of them, which wasn't yielded yet; and the stop that is due: `Ok(None)`, or a failure
-    pub(crate) stage: (Option<(usize, I::Item)>, Option<Option<I::Error>>),
+    pub(crate) stage: ((Option<(usize, I::Item)>, ()), Option<Stop<I::Error>>),
 }
 
 impl<I: FallibleIterator> DedupWithCount<I> {
@@ -20,7 +22,7 @@ impl<I: FallibleIterator> DedupWithCount<I> {
     pub(crate) fn new(it: I) -> DedupWithCount<I> {
         DedupWithCount {
             it,
-            stage: (None, None),
+            stage: ((None, ()), None),
         }
     }
 }
@@ -36,7 +38,7 @@ where
         state: &mut C,
         turn: &K,
     ) -> Result<Option<R>, I::Error> {
-        drive_holding(&mut self.it, &mut self.stage, &EqualHold, state, turn)
+        drive_stage(&mut self.it, &mut self.stage, &EqualCount, state, turn)
     }
 }
 
@@ -50,43 +52,52 @@ where
 
     /// Returns the stop that is due, without a draw. Otherwise it draws until an item differs from the buffered one, or a stop comes.
     fn next(&mut self) -> Result<Option<(usize, I::Item)>, I::Error> {
-        self.fold_by(&mut (), &FirstTurn)
+        next_until(&mut self.it, &mut self.stage, &EqualCount)
     }
 
     fn size_hint(&self) -> (usize, Option<usize>) {
         match self.stage.1 {
             Some(None) => (0, Some(0)),
-            _ => with_held(self.it.size_hint(), self.stage.0.is_some()),
+            _ => with_held(self.it.size_hint(), self.stage.0.0.is_some()),
         }
     }
 
     crate::base::by_drive!(drive);
 }
 
-// What becomes of an item after the buffered one.
-struct EqualHold;
+// An item that equals the buffered one is counted.
+struct EqualCount;
 
-impl<X: PartialEq, E> Hold<Option<(usize, X)>, X, E> for EqualHold {
+impl<X: PartialEq, E> Stage<(Option<(usize, X)>, ()), X, E> for EqualCount {
     type Kept = (usize, X);
 
+    type Due = Stop<E>;
+
     #[inline(always)]
-    fn ask(&self, holds: &mut Option<(usize, X)>, asked: Option<X>) -> Outcome<(usize, X), E> {
-        match (holds.take(), asked) {
-            (None, Some(x)) => {
-                *holds = Some((1, x));
-                Outcome::LeftOut
+    fn on_item(&self, p: &mut (Option<(usize, X)>, ()), item: X) -> Made<(usize, X), Stop<E>, E> {
+        if let Some((count, first)) = &mut p.0 {
+            if *first == item {
+                *count = count.saturating_add(1);
+                return None;
             }
-            (Some((count, first)), Some(x)) => {
-                if first == x {
-                    *holds = Some((count.saturating_add(1), first));
-                    Outcome::LeftOut
-                } else {
-                    *holds = Some((1, x));
-                    Outcome::Kept((count, first))
-                }
-            }
-            (Some(first), None) => Outcome::Kept(first),
-            (None, None) => Outcome::End,
         }
+        match replace(&mut p.0, Some((1, item))) {
+            Some(run) => one(Ok(Some(run))),
+            None => None,
+        }
+    }
+
+    #[inline(always)]
+    fn on_stop(
+        &self,
+        p: &mut (Option<(usize, X)>, ()),
+        stop: Stop<E>,
+    ) -> Made<(usize, X), Stop<E>, E> {
+        let_go(p.0.take(), stop)
+    }
+
+    #[inline(always)]
+    fn answer_due(&self, due: Stop<E>) -> AnswerAndDue<(usize, X), Stop<E>, E> {
+        (stopped(due), None)
     }
 }

@@ -20,14 +20,8 @@ impl<T: FallibleIterator, U: FallibleIterator<Error = T::Error>, F> MergeJoinBy<
     #[inline(always)]
     pub(crate) fn new(left: Fuse<T>, right: Fuse<U>, f: F) -> MergeJoinBy<T, U, F> {
         MergeJoinBy {
-            left: Holding {
-                it: left,
-                held: None,
-            },
-            right: Holding {
-                it: right,
-                held: None,
-            },
+            left: Holding::new(left),
+            right: Holding::new(right),
             f,
         }
     }

@@ -10,6 +10,14 @@ pub(crate) struct Holding<I, X> {
     pub(crate) held: Option<X>,
 }
 
+impl<I, X> Holding<I, X> {
+    // The source, of which nothing is buffered.
+    #[inline(always)]
+    pub(crate) fn new(it: I) -> Holding<I, X> {
+        Holding { it, held: None }
+    }
+}
+
 impl<I: FallibleIterator> Holding<I, I::Item> {
     // Takes the buffered item without a draw, or draws once.
     pub(crate) fn give(&mut self) -> Result<Option<I::Item>, I::Error> {

@@ -64,6 +64,43 @@ pub fn stopped<B, E>(stop: Stop<E>) -> Result<Option<B>, E> {
     }
 }
 
+/// What a stop makes where this is buffered: the buffered item, after which the stop is due; or the stop, where none is buffered.
+///
+/// <details><summary>Contract</summary>
+///
+/// As it is proved, in [these words](crate::words):
+///
+/// ```text
+/// ensures { result ≡ before_stop held stop }
+/// ```
+/// </details>
+#[inline(always)]
+pub fn let_go<B, E>(held: Option<B>, stop: Stop<E>) -> Made<B, Stop<E>, E> {
+    match held {
+        Some(y) => one_then(Ok(Some(y)), stop),
+        None => one(stopped(stop)),
+    }
+}
+
+/// The hint of an adapter that buffers an item or none, if no end is due: at least one item if the source has at least one or one is buffered, and at most the source's and what is buffered.
+///
+/// <details><summary>Contract</summary>
+///
+/// As it is proved, in [these words](crate::words):
+///
+/// ```text
+/// ensures { result ≡ held_hint (if is_held then 1 else 0) hint }
+/// ```
+/// </details>
+pub fn with_held(hint: (usize, Option<usize>), is_held: bool) -> (usize, Option<usize>) {
+    let low = if hint.0 > 0 || is_held { 1 } else { 0 };
+    let high = match hint.1 {
+        Some(bound) => bound.checked_add(if is_held { 1 } else { 0 }),
+        None => None,
+    };
+    (low, high)
+}
+
 /// What an adapter makes of each answer of its source. It holds a `P`; the source yields `X`.
 pub trait Stage<P, X, E> {
     /// What the adapter yields.
@@ -110,9 +147,19 @@ pub trait Stage<P, X, E> {
     fn answer_due(&self, due: Self::Due) -> AnswerAndDue<Self::Kept, Self::Due, E>;
 }
 
-// What becomes of an answer of the source.
+/// What becomes of an answer of the source.
+///
+/// <details><summary>Contract</summary>
+///
+/// As it is proved, in [these words](crate::words):
+///
+/// ```text
+/// requires { IfItem (G.can_meet stage.now p.old) answer }
+/// ensures { stage_meets (G.items stage.now) (G.stops stage.now) p.old answer result p.new }
+/// ```
+/// </details>
 #[inline(always)]
-fn made_of<P, X, E, G: Stage<P, X, E>>(
+pub fn made_of<P, X, E, G: Stage<P, X, E>>(
     answer: Result<Option<X>, E>,
     p: &mut P,
     stage: &G,
@@ -124,9 +171,19 @@ fn made_of<P, X, E, G: Stage<P, X, E>>(
     }
 }
 
-// What is due from now on, where nothing was.
+/// What is due from now on, where nothing was.
+///
+/// <details><summary>Contract</summary>
+///
+/// As it is proved, in [these words](crate::words):
+///
+/// ```text
+/// requires { due.old ≡ None }
+/// ensures { due.new ≡ next }
+/// ```
+/// </details>
 #[inline(always)]
-fn put_due<D>(due: &mut Option<D>, next: Option<D>) {
+pub fn put_due<D>(due: &mut Option<D>, next: Option<D>) {
     match replace(due, next) {
         None => {}
         Some(_) => unreachable!(),
@@ -198,7 +255,8 @@ fn tell_made<P, X, E, G: Stage<P, X, E>, C, R, K: Turn<C, G::Kept, R>>(
 /// requires can_next { I.contract.can_next it.old }
 /// requires takes { TakesAll I.contract (stage_meets (G.items adapter.now) (G.stops adapter.now))
 ///     (G.can_meet adapter.now) it.old stage.old.0 }
-/// requires makes { PassesNoneOver (stage_meets (G.items adapter.now) (G.stops adapter.now)) }
+/// requires makes { PassesNoneOver (stage_meets (G.items adapter.now) (G.stops adapter.now))
+///     stage.old.0 }
 /// ensures { stage_step (G.comes adapter.now)
 ///     (stage_meets (G.items adapter.now) (G.stops adapter.now)) I.contract.steps
 ///     (it.old, stage.old) result (it.new, stage.new) }
@@ -222,6 +280,71 @@ pub fn next_stage<I: FallibleIterator, P, G: Stage<P, I::Item, I::Error>>(
             }
             None => unreachable!(),
         },
+    }
+}
+
+/// One answer of an adapter of which one draw may make nothing: what is due, without a draw, or what draws make, of which the last makes something.
+///
+/// <details><summary>Contract</summary>
+///
+/// As it is proved, in [these words](crate::words):
+///
+/// ```text
+/// requires can_next { I.contract.can_next it.old }
+/// requires finite { I.contract.is_finite it.old }
+/// requires takes { TakesAll I.contract (stage_meets (G.items adapter.now) (G.stops adapter.now))
+///     (G.can_meet adapter.now) it.old stage.old.0 }
+/// ensures { stage_step (G.comes adapter.now)
+///     (stage_meets (G.items adapter.now) (G.stops adapter.now)) I.contract.steps
+///     (it.old, stage.old) result (it.new, stage.new) }
+/// ```
+/// </details>
+pub fn next_until<I: FallibleIterator, P, G: Stage<P, I::Item, I::Error>>(
+    it: &mut I,
+    stage: &mut (P, Option<G::Due>),
+    adapter: &G,
+) -> Result<Option<G::Kept>, I::Error> {
+    match stage.1.take() {
+        Some(due) => {
+            let (answer, left) = adapter.answer_due(due);
+            put_due(&mut stage.1, left);
+            answer
+        }
+        None => {
+            let (answer, due) = drawn_until(it, &mut stage.0, adapter);
+            put_due(&mut stage.1, due);
+            answer
+        }
+    }
+}
+
+/// Draws until a draw makes something, where nothing is due: the answer, and what is due after it.
+///
+/// <details><summary>Contract</summary>
+///
+/// As it is proved, in [these words](crate::words):
+///
+/// ```text
+/// requires can_next { I.contract.can_next it.old }
+/// requires finite { I.contract.is_finite it.old }
+/// requires takes { TakesAll I.contract (stage_meets (G.items adapter.now) (G.stops adapter.now))
+///     (G.can_meet adapter.now) it.old held.old }
+/// ensures { DrawsUpTo (G.comes adapter.now)
+///     (stage_meets (G.items adapter.now) (G.stops adapter.now)) I.contract.steps
+///     it.old held.old result.0 it.new (held.new, result.1) }
+/// ```
+/// </details>
+#[inline(always)]
+pub fn drawn_until<I: FallibleIterator, P, G: Stage<P, I::Item, I::Error>>(
+    it: &mut I,
+    held: &mut P,
+    adapter: &G,
+) -> AnswerAndDue<G::Kept, G::Due, I::Error> {
+    loop {
+        match made_of(it.next(), held, adapter) {
+            Some(made) => return made,
+            None => {}
+        }
     }
 }
 
@@ -351,5 +474,47 @@ fn at_stop<P, X, E, G: Stage<P, X, E>, C, R, K: Turn<C, G::Kept, R>>(
     match tell_made(adapter.on_stop(held, stop), adapter, state, turn) {
         ControlFlow::Break(told) => told,
         ControlFlow::Continue(()) => unreachable!(),
+    }
+}
+
+/// One answer of an adapter that makes nothing of one item at most, and may always be called: what is due, without a draw, or what one draw makes, or a second.
+///
+/// <details><summary>Contract</summary>
+///
+/// As it is proved, in [these words](crate::words):
+///
+/// ```text
+/// requires can_next { I.contract.can_next it.old }
+/// requires takes { (p : P) (x : I.Item) → G.can_meet adapter.now p x }
+/// requires makes { PassesOneOver (stage_meets (G.items adapter.now) (G.stops adapter.now)) }
+/// ensures { stage_step (G.comes adapter.now)
+///     (stage_meets (G.items adapter.now) (G.stops adapter.now)) I.contract.steps
+///     (it.old, stage.old) result (it.new, stage.new) }
+/// ```
+/// </details>
+pub fn next_past_one<I: FallibleIterator, P, G: Stage<P, I::Item, I::Error>>(
+    it: &mut I,
+    stage: &mut (P, Option<G::Due>),
+    adapter: &G,
+) -> Result<Option<G::Kept>, I::Error> {
+    match stage.1.take() {
+        Some(due) => {
+            let (answer, left) = adapter.answer_due(due);
+            put_due(&mut stage.1, left);
+            answer
+        }
+        None => match made_of(it.next(), &mut stage.0, adapter) {
+            Some((answer, next)) => {
+                put_due(&mut stage.1, next);
+                answer
+            }
+            None => match made_of(it.next(), &mut stage.0, adapter) {
+                Some((answer, next)) => {
+                    put_due(&mut stage.1, next);
+                    answer
+                }
+                None => unreachable!(),
+            },
+        },
     }
 }

@@ -1,9 +1,11 @@
 // The adapter that yields each item with its position.
 
 use crate::base::Turn;
-use crate::base::{Outcome, sum};
-use crate::fallible_itertools_adapters::holding::{Hold, drive_holding};
-use core::mem;
+use crate::base::sum;
+use crate::fallible_itertools_adapters::staging::{
+    AnswerAndDue, Made, Stage, Stop, drive_stage, let_go, next_stage, one, stopped,
+};
+use core::mem::replace;
 use fallible_iterator::FallibleIterator;
 
 /// Where an item stands among the items between two stops. A stop is `Ok(None)` or a failure.
@@ -25,7 +27,7 @@ pub enum Position {
 pub struct WithPosition<I: FallibleIterator> {
     pub(crate) it: I,
     // the item that wasn't yielded yet, and whether an item since the last stop came before it; and the stop that is due: `Ok(None)`, or a failure
-    pub(crate) stage: (Option<(bool, I::Item)>, Option<Option<I::Error>>),
+    pub(crate) stage: ((Option<(bool, I::Item)>, ()), Option<Stop<I::Error>>),
 }
 
 impl<I: FallibleIterator> WithPosition<I> {
@@ -34,7 +36,7 @@ impl<I: FallibleIterator> WithPosition<I> {
     pub(crate) fn new(it: I) -> WithPosition<I> {
         WithPosition {
             it,
-            stage: (None, None),
+            stage: ((None, ()), None),
         }
     }
 }
@@ -47,7 +49,7 @@ impl<I: FallibleIterator> WithPosition<I> {
         state: &mut C,
         turn: &K,
     ) -> Result<Option<R>, I::Error> {
-        drive_holding(&mut self.it, &mut self.stage, &PositionHold, state, turn)
+        drive_stage(&mut self.it, &mut self.stage, &PositionStage, state, turn)
     }
 }
 
@@ -59,19 +61,14 @@ impl<I: FallibleIterator> FallibleIterator for WithPosition<I> {
     /// Returns the stop that is due, without a draw. Otherwise it draws once if an item is buffered, and otherwise twice, or up to a stop.
     fn next(&mut self) -> Result<Option<(Position, I::Item)>, I::Error> {
         match self.stage.1.take() {
-            Some(Some(e)) => Err(e),
-            Some(None) => Ok(None),
-            None => match self.stage.0.take() {
-                Some(before) => {
-                    position_after(&mut self.it, &mut self.stage.0, &mut self.stage.1, before)
-                }
+            Some(stop) => stopped(stop),
+            None => match &self.stage.0.0 {
+                Some(_) => next_stage(&mut self.it, &mut self.stage, &PositionStage),
                 None => match self.it.next() {
-                    Ok(Some(first)) => position_after(
-                        &mut self.it,
-                        &mut self.stage.0,
-                        &mut self.stage.1,
-                        (false, first),
-                    ),
+                    Ok(Some(first)) => {
+                        self.stage.0.0 = Some((false, first));
+                        next_stage(&mut self.it, &mut self.stage, &PositionStage)
+                    }
                     Ok(None) => Ok(None),
                     Err(e) => Err(e),
                 },
@@ -83,7 +80,7 @@ impl<I: FallibleIterator> FallibleIterator for WithPosition<I> {
         match self.stage.1 {
             Some(None) => (0, Some(0)),
             _ => {
-                let held = if self.stage.0.is_some() { 1 } else { 0 };
+                let held = if self.stage.0.0.is_some() { 1 } else { 0 };
                 sum(self.it.size_hint(), (held, Some(held)))
             }
         }
@@ -92,57 +89,50 @@ impl<I: FallibleIterator> FallibleIterator for WithPosition<I> {
     crate::base::by_drive!(drive);
 }
 
-// One draw after that item, which is yielded in any case. It is buffered no more, and no stop is due.
-fn position_after<I: FallibleIterator>(
-    it: &mut I,
-    held: &mut Option<(bool, I::Item)>,
-    due: &mut Option<Option<I::Error>>,
-    before: (bool, I::Item),
-) -> Result<Option<(Position, I::Item)>, I::Error> {
-    let (is_later, item) = before;
-    match it.next() {
-        Ok(Some(x)) => {
-            *held = Some((true, x));
-            Ok(Some((before_item(is_later), item)))
+// An item is buffered until it is known what comes after it.
+struct PositionStage;
+
+impl<X, E> Stage<(Option<(bool, X)>, ()), X, E> for PositionStage {
+    type Kept = (Position, X);
+
+    type Due = Stop<E>;
+
+    #[inline(always)]
+    fn on_item(&self, p: &mut (Option<(bool, X)>, ()), item: X) -> Made<(Position, X), Stop<E>, E> {
+        let is_later = p.0.is_some();
+        match replace(&mut p.0, Some((is_later, item))) {
+            Some((was_later, before)) => one(Ok(Some((first_or_middle(was_later), before)))),
+            None => None,
         }
-        Ok(None) => {
-            *due = Some(None);
-            Ok(Some((before_stop(is_later), item)))
-        }
-        Err(e) => {
-            *due = Some(Some(e));
-            Ok(Some((before_stop(is_later), item)))
-        }
+    }
+
+    #[inline(always)]
+    fn on_stop(
+        &self,
+        p: &mut (Option<(bool, X)>, ()),
+        stop: Stop<E>,
+    ) -> Made<(Position, X), Stop<E>, E> {
+        let_go(placed_last(p.0.take()), stop)
+    }
+
+    #[inline(always)]
+    fn answer_due(&self, due: Stop<E>) -> AnswerAndDue<(Position, X), Stop<E>, E> {
+        (stopped(due), None)
     }
 }
 
-// What becomes of an item after the buffered one.
-struct PositionHold;
-
-impl<X, E> Hold<Option<(bool, X)>, X, E> for PositionHold {
-    type Kept = (Position, X);
-
-    #[inline(always)]
-    fn ask(&self, holds: &mut Option<(bool, X)>, asked: Option<X>) -> Outcome<(Position, X), E> {
-        match asked {
-            Some(x) => {
-                let is_later = holds.is_some();
-                match mem::replace(holds, Some((is_later, x))) {
-                    Some((was_later, first)) => Outcome::Kept((before_item(was_later), first)),
-                    None => Outcome::LeftOut,
-                }
-            }
-            None => match holds.take() {
-                Some((was_later, last)) => Outcome::Kept((before_stop(was_later), last)),
-                None => Outcome::End,
-            },
-        }
+// The buffered item with its position before a stop.
+#[inline(always)]
+fn placed_last<X>(held: Option<(bool, X)>) -> Option<(Position, X)> {
+    match held {
+        Some((is_later, last)) => Some((only_or_last(is_later), last)),
+        None => None,
     }
 }
 
 // The position of an item that another item comes after.
 #[inline(always)]
-fn before_item(is_later: bool) -> Position {
+fn first_or_middle(is_later: bool) -> Position {
     if is_later {
         Position::Middle
     } else {
@@ -152,7 +142,7 @@ fn before_item(is_later: bool) -> Position {
 
 // The position of an item that a stop comes after.
 #[inline(always)]
-fn before_stop(is_later: bool) -> Position {
+fn only_or_last(is_later: bool) -> Position {
     if is_later {
         Position::Last
     } else {

@@ -18,10 +18,7 @@ impl<T: FallibleIterator, U: FallibleIterator<Error = T::Error>, F> ZipEq<T, U, 
     #[inline(always)]
     pub(crate) fn new(left: Fuse<T>, right: Fuse<U>, f: F) -> ZipEq<T, U, F> {
         ZipEq {
-            left: Holding {
-                it: left,
-                held: None,
-            },
+            left: Holding::new(left),
             right,
             f,
         }

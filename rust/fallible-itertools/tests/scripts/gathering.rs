@@ -53,6 +53,8 @@ enum Call {
     GroupMap,
     // by the items themselves
     GroupMapBy,
+    // by the items themselves: their places in order
+    FoldByKey,
     // into those that are 1 and the others, by their places
     PartitionMap,
     // of two
@@ -97,6 +99,7 @@ pub fn drive_gathering(total: &mut Tally) -> io::Result<()> {
         Call::InPlaceByKey,
         Call::GroupMap,
         Call::GroupMapBy,
+        Call::FoldByKey,
         Call::PartitionMap,
         Call::Tail,
         Call::KSmallest,
@@ -213,6 +216,17 @@ fn make(call: Call, mut script: Script<'_>) -> Result<Answer, AllocError> {
             read_groups(pairs.into_group_map())
         }
         Call::GroupMapBy => read_groups((&mut script).into_group_map_by(|x: &u32| Ok(*x))),
+        Call::FoldByKey => {
+            let mut place: u32 = 0;
+            read_folds((&mut script).fold_by_key(
+                |x: &u32| Ok(*x),
+                0,
+                |places: u32, _: u32| {
+                    place = place.wrapping_add(1);
+                    Ok(append_digit(places, place))
+                },
+            ))
+        }
         Call::PartitionMap => {
             let mut place: u32 = 0;
             let sides = (&mut script).partition_map(|x: u32| {
@@ -282,6 +296,17 @@ fn read_groups(made: Result<HashMap<u32, Vec<u32>>, Failed>) -> Result<Answer, A
         Ok(groups) => Ok(Answer::Item(pair_code(
             places(groups.get(&1)),
             places(groups.get(&2)),
+        ))),
+        Err(e) => Ok(Answer::Failure(e.0)),
+    }
+}
+
+// The folds of the items that are 1 and of those that are 2 as one number, or the failure.
+fn read_folds(made: Result<HashMap<u32, u32>, Failed>) -> Result<Answer, AllocError> {
+    match made {
+        Ok(folds) => Ok(Answer::Item(pair_code(
+            folds.get(&1).copied().unwrap_or(0),
+            folds.get(&2).copied().unwrap_or(0),
         ))),
         Err(e) => Ok(Answer::Failure(e.0)),
     }
@@ -401,7 +426,9 @@ fn wanted(call: Call, given: &Given) -> Told {
             let greatest = twos.min(2u32.saturating_sub(least));
             Answer::Item(so_many(so_many(0, least, 1), greatest, 2))
         }
-        Call::GroupMap | Call::PartitionMap => Answer::Item(pair_code(of_ones, of_twos)),
+        Call::GroupMap | Call::FoldByKey | Call::PartitionMap => {
+            Answer::Item(pair_code(of_ones, of_twos))
+        }
         Call::GroupMapBy => Answer::Item(pair_code(so_many(0, ones, 1), so_many(0, twos, 2))),
     };
     Told { answer, draws }

@@ -506,6 +506,75 @@ pub fn merged_in_order(left: &[Seen], right: &[Seen]) -> Result<Vec<Seen>, Alloc
     })
 }
 
+// A list, how far it was answered, and how many draws it took so far.
+struct Merging {
+    list: Vec<Seen>,
+    place: usize,
+    draws: u32,
+}
+
+/// Of the first answers of all lists, each fused, the first failure, beyond which they aren't looked at. Without one the first of the items that goes before all others, and without an item an end. What isn't answered comes first again.
+pub fn merged_of_all<F: FnMut(u32, u32) -> bool>(
+    sources: &[Vec<Seen>],
+    mut goes_first: F,
+) -> Result<Vec<Seen>, AllocError> {
+    let mut lists: Vec<Merging> = Vec::new();
+    for source in sources {
+        let list = fused(source.as_slice())?;
+        lists.push(Merging {
+            list,
+            place: 0,
+            draws: 0,
+        });
+    }
+    let mut all = Vec::new();
+    for _ in 0..40 {
+        let (answer, number) = first_of_all(&mut lists, &mut goes_first);
+        if let Some(answered) = lists.get_mut(number) {
+            answered.place = answered.place.wrapping_add(1);
+        }
+        let mut draws: u32 = 0;
+        for merging in &lists {
+            draws = draws.wrapping_add(merging.draws);
+        }
+        all.push(Seen { answer, draws });
+    }
+    Ok(all)
+}
+
+// The answer, and the number of its list; where all are over, none has that number.
+fn first_of_all<F: FnMut(u32, u32) -> bool>(
+    lists: &mut Vec<Merging>,
+    goes_first: &mut F,
+) -> (Answer, usize) {
+    let mut first = Answer::End;
+    let mut number = lists.len();
+    for i in 0..lists.len() {
+        let Some(merging) = lists.get_mut(i) else {
+            break;
+        };
+        let Some(seen) = merging.list.get(merging.place) else {
+            break;
+        };
+        merging.draws = seen.draws;
+        match (first, seen.answer) {
+            (_, Answer::Failure(e)) => return (Answer::Failure(e), i),
+            (_, Answer::End) => {}
+            (Answer::Item(x), Answer::Item(y)) => {
+                if !goes_first(x, y) {
+                    first = seen.answer;
+                    number = i;
+                }
+            }
+            (_, Answer::Item(_)) => {
+                first = seen.answer;
+                number = i;
+            }
+        }
+    }
+    (first, number)
+}
+
 /// Two items as a pair, and beside an end the other's item with 0 in the end's place.
 pub fn zipped_longest(left: &[Seen], right: &[Seen]) -> Result<Vec<Seen>, AllocError> {
     side_by_side(left, right, 0, |a: Answer, b: Answer| {

@@ -65,7 +65,7 @@ fn each_adapter_by_every_short_script() -> io::Result<()> {
     drive_gathering(&mut total)?;
     let cases = total.cases;
     let mismatches = total.mismatches;
-    assert_eq!((cases, mismatches), (1541833, 0));
+    assert_eq!((cases, mismatches), (1609010, 0));
     Ok(())
 }
 
@@ -151,6 +151,10 @@ fn drive_itertools(total: &mut Tally) -> io::Result<()> {
     drive::<Over<merging::MergedLeft>>(total)?;
     drive::<Over<merging::MergedRight>>(total)?;
     drive::<merging::MergedInOrder>(total)?;
+    drive::<merging::ManyOfTwo>(total)?;
+    drive::<merging::ManyOfThree>(total)?;
+    drive::<merging::ManyByCalls>(total)?;
+    drive::<merging::ManyGreaterFirst>(total)?;
     drive::<merging::ZippedLongestLeft>(total)?;
     drive::<merging::ZippedLongestRight>(total)?;
     drive::<Over<merging::PaddedByCalls>>(total)?;

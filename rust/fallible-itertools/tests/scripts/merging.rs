@@ -1,11 +1,11 @@
 //! Adapters that join two sources and hold what comes next of either.
 
 use crate::AllocError;
-use crate::answer::{Failed, Seen};
+use crate::answer::{Answer, Failed, Seen};
 use crate::case::{Case, Given, Run};
 use crate::itertools_rules::{
-    at_index, interleaved, joined_in_order, merged, merged_in_order, ordering_by_calls,
-    padded_by_calls, zipped_equal, zipped_longest,
+    at_index, interleaved, joined_in_order, merged, merged_in_order, merged_of_all,
+    ordering_by_calls, padded_by_calls, zipped_equal, zipped_longest,
 };
 use crate::joining::BESIDE;
 use crate::layers::{Layer, Visit};
@@ -13,8 +13,9 @@ use crate::lists::whole;
 use crate::operating::operate;
 use crate::operation::Outcome;
 use crate::rules::by_calls;
+use crate::script::Script;
 use fallible_iterator::FallibleIterator;
-use fallible_itertools::FallibleItertools;
+use fallible_itertools::{FallibleItertools, kmerge, kmerge_by};
 
 /// The source merged with a script, by a closure that is true on odd calls and fails on each third call.
 pub struct MergedLeft;
@@ -87,6 +88,113 @@ impl Case for MergedInOrder {
     fn expected(given: &Given) -> Result<Vec<Seen>, AllocError> {
         let beside = whole(BESIDE)?;
         merged_in_order(given.all.as_slice(), beside.as_slice())
+    }
+}
+
+// What stands beside both: two items, one of which the script may have too, a failure and an item.
+const BESIDE_BOTH: [Answer; 4] = [
+    Answer::Item(1),
+    Answer::Item(6),
+    Answer::Failure(8),
+    Answer::Item(2),
+];
+
+/// The script merged with another by their order, as one of many.
+pub struct ManyOfTwo;
+
+impl Case for ManyOfTwo {
+    fn name() -> &'static str {
+        "kmerge of two"
+    }
+
+    fn perform(run: &Run<'_>) -> Result<Option<Outcome>, AllocError> {
+        let mut sources: Vec<Script<'_>> = Vec::new();
+        sources.push(run.script());
+        sources.push(run.other(BESIDE));
+        operate(run, kmerge(sources))
+    }
+
+    fn expected(given: &Given) -> Result<Vec<Seen>, AllocError> {
+        let mut lists = Vec::new();
+        lists.push(whole(given.answers)?);
+        lists.push(whole(BESIDE)?);
+        merged_of_all(lists.as_slice(), |x: u32, y: u32| x <= y)
+    }
+}
+
+/// The script merged with two others by their order.
+pub struct ManyOfThree;
+
+impl Case for ManyOfThree {
+    fn name() -> &'static str {
+        "kmerge of three"
+    }
+
+    fn perform(run: &Run<'_>) -> Result<Option<Outcome>, AllocError> {
+        let mut sources: Vec<Script<'_>> = Vec::new();
+        sources.push(run.other(BESIDE));
+        sources.push(run.script());
+        sources.push(run.other(BESIDE_BOTH));
+        operate(run, kmerge(sources))
+    }
+
+    fn expected(given: &Given) -> Result<Vec<Seen>, AllocError> {
+        let mut lists = Vec::new();
+        lists.push(whole(BESIDE)?);
+        lists.push(whole(given.answers)?);
+        lists.push(whole(BESIDE_BOTH)?);
+        merged_of_all(lists.as_slice(), |x: u32, y: u32| x <= y)
+    }
+}
+
+/// The script merged with another, as one of many, by a closure that is true on odd calls and fails on each third call.
+pub struct ManyByCalls;
+
+impl Case for ManyByCalls {
+    fn name() -> &'static str {
+        "kmerge_by of two, by calls"
+    }
+
+    fn perform(run: &Run<'_>) -> Result<Option<Outcome>, AllocError> {
+        let mut sources: Vec<Script<'_>> = Vec::new();
+        sources.push(run.script());
+        sources.push(run.other(BESIDE_BOTH));
+        let mut calls: u32 = 0;
+        let nest = kmerge_by(sources, |x: &u32, y: &u32| {
+            calls = calls.wrapping_add(1);
+            by_calls(calls, (*x).wrapping_mul(10).wrapping_add(*y)).map_err(Failed)
+        });
+        operate(run, nest)
+    }
+
+    fn expected(given: &Given) -> Result<Vec<Seen>, AllocError> {
+        let beside = whole(BESIDE_BOTH)?;
+        merged(given.all.as_slice(), beside.as_slice(), 0)
+    }
+}
+
+/// The script merged with two others, the greater item first.
+pub struct ManyGreaterFirst;
+
+impl Case for ManyGreaterFirst {
+    fn name() -> &'static str {
+        "kmerge_by of three"
+    }
+
+    fn perform(run: &Run<'_>) -> Result<Option<Outcome>, AllocError> {
+        let mut sources: Vec<Script<'_>> = Vec::new();
+        sources.push(run.script());
+        sources.push(run.other(BESIDE_BOTH));
+        sources.push(run.other(BESIDE));
+        operate(run, kmerge_by(sources, |x: &u32, y: &u32| Ok(*x >= *y)))
+    }
+
+    fn expected(given: &Given) -> Result<Vec<Seen>, AllocError> {
+        let mut lists = Vec::new();
+        lists.push(whole(given.answers)?);
+        lists.push(whole(BESIDE_BOTH)?);
+        lists.push(whole(BESIDE)?);
+        merged_of_all(lists.as_slice(), |x: u32, y: u32| x >= y)
     }
 }
 
