@@ -1,6 +1,6 @@
 -- What an adapter by functions lists where its answers are made of a list's, up to an allocation failure, at which what is held comes first.
 use Rattle.std.specs.Prelude.{◌≡◌, ⊤, ◌⊎◌, Option, Some, None, Result, Ok, Err, List, [], ◌∷◌}
-use Rattle.std.proofs.Common.{refl, sym, subst, inl, inr, ◌∙◌}
+use Rattle.std.proofs.Common.{refl, subst, inl, inr, ◌∙◌}
 use Rattle.fallible_iterator.specs.Traces.{Answered, end}
 use Rattle.fallible_iterator.specs.Lists.{AlwaysGives, result_answer}
 use Rattle.fallible_iterator.specs.Making.{AtRefusal, GivesMade, IsRefusal}
