@@ -1,5 +1,5 @@
 -- What `chunked_by` makes of a list, step by step.
-use Rattle.std.specs.Prelude.{◌≡◌, cond, Bool, true, false, Option, Some, None, Result, Ok, Err, List, [], ◌∷◌, ◌++◌, map, ⊤}
+use Rattle.std.specs.Prelude.{◌≡◌, cond, Bool, true, false, Option, Some, None, Result, Ok, Err, List, [], ◌∷◌, ◌++◌, map}
 use Rattle.std.specs.List.{AllByRecursion}
 use Rattle.std.proofs.Common.{refl, sym, ap, append-nil, append_assoc, ◌∙◌}
 use Rattle.std.proofs.lemmas.List.Elements.{recursion_from_All}

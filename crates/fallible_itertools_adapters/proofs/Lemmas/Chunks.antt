@@ -1,5 +1,5 @@
 -- What `Chunks` makes of its source's answers, and what it lists.
-use Rattle.std.specs.Prelude.{◌≡◌, ℕ, ◌-◌, ◌<◌, ◌≤◌, ltb, Bool, true, false, Option, Some, None, Result, Ok, Err, List, [], ◌∷◌, ◌++◌, length, ⊤, ◌⊎◌, vec_items}
+use Rattle.std.specs.Prelude.{◌≡◌, ℕ, ◌-◌, ◌<◌, ◌≤◌, ltb, Bool, true, false, Option, Some, None, Result, Ok, Err, List, [], ◌∷◌, ◌++◌, length, ◌⊎◌, vec_items}
 use Rattle.std.proofs.Common.{refl, sym, ap, subst, inl, inr, arith, length-append, ◌∙◌}
 use Rattle.std.proofs.lemmas.Bool.{ltb-true, lt-ltb, le-ltb}
 use Rattle.fallible_iterator.specs.Traces.{Answered, item}

@@ -3,7 +3,7 @@ use Rattle.std.specs.Prelude.{ℕ, ltb, Bool, true, false, Option, Some, None, O
 use Rattle.std.proofs.Common.{refl, arith}
 use Rattle.fallible_iterator.specs.Contract.{Contract, Lawful}
 use Rattle.fallible_itertools_adapters.specs.Batch.{Put, kept_of}
-use Rattle.fallible_itertools_adapters.specs.BeforeStop.{before_stop, held_one}
+use Rattle.fallible_itertools_adapters.specs.BeforeStop.{before_stop}
 use Rattle.fallible_itertools_adapters.specs.Chunks.{batch_at, batch_by, batch_held, chunks_contract, chunks_hints, chunks_plan, chunks_stops, puts, vec_count}
 use Rattle.fallible_itertools_adapters.specs.Laws.Plan.{ItemWeighs, before_stop_weighs, is_stage_plan, lawful_plan}
 use Rattle.fallible_itertools_adapters.specs.Plan.{plan_meets}

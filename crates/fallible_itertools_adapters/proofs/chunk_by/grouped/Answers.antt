@@ -1,5 +1,5 @@
 -- What becomes of the item, by its key and the group that is held.
-use Rattle.std.specs.Prelude.{◌≡◌, Some, None}
+use Rattle.std.specs.Prelude.{Some, None}
 use Rattle.std.proofs.Common.{refl, sym, ◌∙◌}
 use Rattle.fallible_itertools_adapters.proofs.Lemmas.ChunkBy.{grouped_first, grouped_other, grouped_refused, grouped_same, grouped_same_refused, none_joined_where_differ}
 use Rattle.fallible_itertools_adapters.proofs.chunk_by.grouped.Goals as goal
