@@ -86,14 +86,12 @@ impl<X: Drop, E, F: FnMut(&X, &X) -> Result<bool, E>> Stage<(Option<(usize, X)>,
 
     ghost comes = { λ _ stop. stop_comes stop };
 
-    ghost can_meet = { λ _ p x. plan_takes (same_takes F.FnMut) (count_plan {E = E}) p
-        x };
+    ghost can_meet = { λ _ p x. plan_takes (same_takes F.FnMut) (count_plan {E = E}) p x };
 
-    ghost items = { λ _ p x made q. plan_item (same_call F.FnMut) count_plan
-        count_stops p x made q };
+    ghost items = { λ _ p x made q. plan_item (same_call F.FnMut) count_plan count_stops p x made q };
 
-    ghost stops = { λ _ p stop made q. plan_stop (same_call F.FnMut) count_plan
-        count_stops p stop made q };
+    ghost stops = { λ _ p stop made q. plan_stop (same_call F.FnMut) count_plan count_stops p stop made
+        q };
 
     ghost most = { λ _. 1 };
 
@@ -102,8 +100,7 @@ impl<X: Drop, E, F: FnMut(&X, &X) -> Result<bool, E>> Stage<(Option<(usize, X)>,
     #[inline(always)]
     fn on_item(&self, p: &mut (Option<(usize, X)>, F), item: X) -> Made<(usize, X), Stop<E>, E>
         requires { plan_takes (same_takes F.FnMut) (count_plan {E = E}) p.old item }
-        ensures { plan_item (same_call F.FnMut) count_plan count_stops p.old item
-            result p.new }
+        ensures { plan_item (same_call F.FnMut) count_plan count_stops p.old item result p.new }
     {
         match &mut p.0 {
             None => {
@@ -130,8 +127,7 @@ impl<X: Drop, E, F: FnMut(&X, &X) -> Result<bool, E>> Stage<(Option<(usize, X)>,
         p: &mut (Option<(usize, X)>, F),
         stop: Stop<E>,
     ) -> Made<(usize, X), Stop<E>, E>
-        ensures { plan_stop (same_call F.FnMut) count_plan count_stops p.old stop
-            result p.new }
+        ensures { plan_stop (same_call F.FnMut) count_plan count_stops p.old stop result p.new }
     {
         let_go(p.0.take(), stop)
     }

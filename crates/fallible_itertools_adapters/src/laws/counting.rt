@@ -13,7 +13,7 @@ use crate::dedup_by_with_count::DedupByWithCount;
 use crate::dedup_with_count::DedupWithCount;
 use fallible_iterator::FallibleIterator;
 
-/// The items that are equal, as `deduped_by_with_count` has them: each item that stands is beside the number of items of the group that it begins, as `chunked_by` makes groups of equal items; a number above `usize::MAX` is that one. Without the numbers it is what `dedup` yields. A failure parts a list: what stands before it is counted by itself, and so is what comes after it.
+/// It is `deduped_by_with_count` by the equality. Each item is beside the number of items of the group that it begins, as `chunked_by` makes groups of equal items; a number above `usize::MAX` is that one. Without the numbers it is what `dedup` yields. A failure parts a list: what stands before it is counted by itself, and so is what comes after it.
 pub fn law_deduped_with_count<T: PartialEq, E>()
     ensures equal { (l : List (Result T E))
         → deduped_with_count T.eq l ≡ deduped_by_with_count (λ y x. Ok (T.eq y x)) l }
