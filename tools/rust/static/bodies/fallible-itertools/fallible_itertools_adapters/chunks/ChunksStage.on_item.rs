@@ -1,5 +1,5 @@
 // changed: no allocator is passed, and none refuses
-// proved: bd0c958b
+// proved: 03043e25
 fn on_item(
     &self,
     p: &mut ((usize, Option<Vec<X>>), ()),
