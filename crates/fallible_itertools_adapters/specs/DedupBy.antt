@@ -5,7 +5,7 @@ use Rattle.std.specs.Borrow.{Bor}
 use Rattle.fallible_iterator.specs.Traces.{Answered}
 use Rattle.fallible_iterator.specs.Contract.{Contract, Inverse}
 use Rattle.fallible_iterator.specs.Picking.{call_at_two, takes_at_two}
-use Rattle.fallible_itertools_adapters.specs.BeforeStop.{before_stop, held_hints, held_one}
+use Rattle.fallible_itertools_adapters.specs.BeforeStop.{held_hints, held_one}
 use Rattle.fallible_itertools_adapters.specs.Dedup.{dedup_stops, unless_same}
 use Rattle.fallible_itertools_adapters.specs.Plan.{Making, Plan, bounded, call_on_pair, calls, closure_contract, makes, plan_meets, takes_pair}
 use Rattle.fallible_itertools_adapters.specs.Staged.{as_function, plan_does, staged}

@@ -4,15 +4,14 @@ use Rattle.std.proofs.Common.{refl, sym, ap, subst, inl, inr, arith, ◌∙◌}
 use Rattle.fallible_iterator.specs.Traces.{Answered, Yields, end, item}
 use Rattle.fallible_iterator.specs.Contract.{Contract, parts_as}
 use Rattle.fallible_iterator.specs.Hints.{fitting_sum}
-use Rattle.fallible_iterator.specs.Lists.{result_answer}
-use Rattle.fallible_iterator.specs.SoundHints.{Brackets, HintsAsSoundAs, SoundHints}
+use Rattle.fallible_iterator.specs.SoundHints.{Brackets, SoundHints}
 use Rattle.fallible_iterator.proofs.Lemmas.Hints.Drawn.{brackets_seen, brackets_zero_where_no_item, if_some_at_least_of_smaller}
 use Rattle.fallible_iterator.proofs.Lemmas.Hints.Joining.{if_some_fitting_sum_at_least_both}
 use Rattle.fallible_itertools_adapters.specs.Adjacent.{AdjacentItems}
 use Rattle.fallible_itertools_adapters.specs.BeforeStop.{HintsPastFailure, HintsWhereHeld, before_stop, held_hints, held_one, hint_unless_end}
 use Rattle.fallible_itertools_adapters.specs.Laws.Plan.{Always, ItemWeighs}
 use Rattle.fallible_itertools_adapters.specs.Plan.{HintBy, HintPlan, Making, Plan, bounded, calls, makes, plan_hint, plan_meets}
-use Rattle.fallible_itertools_adapters.specs.Staged.{as_function, before_rest, followed, made_first, plan_does, staged}
+use Rattle.fallible_itertools_adapters.specs.Staged.{as_function, followed, made_first, plan_does, staged}
 use Rattle.fallible_itertools_adapters.specs.Staging.{EndsInStop, Made, due_total, items_of, made_total, stage_contract, stage_step, stop_comes}
 use Rattle.fallible_itertools_adapters.proofs.Lemmas.Adjacent.{EachNext, HoldsOfNext, adjacent_items_of_each_next}
 use Rattle.fallible_itertools_adapters.proofs.Lemmas.PlanHints.{PlanMakes, hints_as_sound_by_makes, makes_at_most_plan, makes_no_fewer_plan}

@@ -11,7 +11,6 @@ use Rattle.fallible_itertools_adapters.specs.Adjacent.{AdjacentItems, HaveKeys}
 use Rattle.fallible_itertools_adapters.specs.BeforeStop.{HintsWhereHeld, held_one}
 use Rattle.fallible_itertools_adapters.specs.DedupByKey.{dedup_by_key_contract, dedup_by_key_due, dedup_by_key_parts, dedup_by_key_source, dedup_key_plan, dedup_key_stops, deduped_by_key, keyed_by, keyed_item, unless_same_key}
 use Rattle.fallible_itertools_adapters.specs.Laws.DedupByKey.{dedup_key_plan_weighs, held_one_of_keyed}
-use Rattle.fallible_itertools_adapters.specs.Laws.Plan.{Always}
 use Rattle.fallible_itertools_adapters.specs.Plan.{plan_can}
 use Rattle.fallible_itertools_adapters.specs.Staged.{as_function}
 use Rattle.fallible_itertools_adapters.specs.Staging.{Made, MayMeet, stop_comes}

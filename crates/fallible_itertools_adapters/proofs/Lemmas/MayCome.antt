@@ -1,6 +1,6 @@
 -- What may still come of what puts separators between items comes of a call or of the source.
 use Rattle.std.specs.Prelude.{◌≡◌, ⊤, ◌⊎◌, Bool, true, false, Option, Some, None, Result, Ok, Err}
-use Rattle.std.proofs.Common.{refl, ap, subst, inl, inr}
+use Rattle.std.proofs.Common.{ap, subst, inl, inr}
 use Rattle.fallible_iterator.specs.Traces.{Answered, item, failure}
 use Rattle.fallible_iterator.specs.Contract.{Contract}
 use Rattle.fallible_iterator.specs.Closures.{MayAnswer}

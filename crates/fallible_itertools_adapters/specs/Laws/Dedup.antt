@@ -1,5 +1,5 @@
 -- The contract of `Dedup` is lawful where the source's is.
-use Rattle.std.specs.Prelude.{ℕ, Bool, true, false, Option, Some, None}
+use Rattle.std.specs.Prelude.{Bool, true, false, Option, Some, None}
 use Rattle.std.proofs.Common.{arith, refl}
 use Rattle.fallible_iterator.specs.Contract.{Contract, Lawful}
 use Rattle.fallible_itertools_adapters.specs.BeforeStop.{held_hints, held_one}
