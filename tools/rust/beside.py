@@ -125,6 +125,11 @@ RULES = [
     (r"lib\.rs", r"^#\[doc\(hidden\)\]\npub (mod traits;)", r"\1", 1),
     (r"lib\.rs", r"^mod errors;", r"mod base;\n\g<0>", 1),
 ]
+# Of what comes along.
+CARRIED = [
+    # No pass of the second crate makes an end.
+    (r"base/fallible_contract/passing\.rs", r"^    End,", "    #[allow(dead_code)]\n    End,", 1),
+]
 
 
 def to_rust(crate, files, proved, why, first):
@@ -143,6 +148,7 @@ def to_rust(crate, files, proved, why, first):
         if call in NAMES:
             why[path, head + "." + NAMES[call]] = why.pop((path, name))
     made, outside = carried.base(files, proved, why, first)
+    apply("beside", made, CARRIED)
     for text in made.values():
         named(text)
     for path, text in made.items():

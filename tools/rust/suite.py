@@ -38,6 +38,7 @@ LEFT_OUT = [
     (r"\.push\([^()]*\)\.is_err", "std refuses memory"),
     (r"\breferences_and_boxes_pass", "no fold goes through a reference or a box"),
     (r"=> input\.extend_from_slice", "std refuses memory"),
+    (r"\bfn sum_and_product_are_one_fold", "`sum` and `product` are std's"),
     (r"\.chain\(span", "`chain` of what only becomes an iterator"),
 ]
 

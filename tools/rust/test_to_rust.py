@@ -25,7 +25,7 @@ class Refusals(unittest.TestCase):
     def setUp(self):
         self.folder = Path(tempfile.mkdtemp())
         self.tree, self.out = self.folder / "tree", self.folder / "out"
-        for path in (*TOP.glob("crates/*/src"), *TOP.glob("tests/*/src"), TOP / "release/examples/src"):
+        for path in (*TOP.glob("crates/*/src"), *TOP.glob("tests/*/src"), TOP / "release/examples/src", TOP / "release/scripts"):
             shutil.copytree(path, self.tree / path.relative_to(TOP))
         shutil.copy(TOP / "LICENSE", self.tree)
         (self.tree / "docs").mkdir()

@@ -13,6 +13,7 @@ pub enum Outcome<B, E> {
     /// a failure in its place
     Failure(E),
     /// an `Ok(None)` in its place
+    #[allow(dead_code)]
     End,
 }
 
