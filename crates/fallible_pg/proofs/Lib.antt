@@ -1,6 +1,9 @@
 mod CellLemmas
+mod ColumnLemmas
+mod CsvLemmas
 mod DrawLemmas
 mod FieldLemmas
+mod ListLemmas
 mod ListedLaw
 mod PrintLemmas
 mod ReadingLemmas
