@@ -1,3 +1,4 @@
+mod Base64Lemmas
 mod CellLemmas
 mod ColumnLemmas
 mod CsvLemmas
@@ -9,6 +10,7 @@ mod PrintLemmas
 mod ReadingLemmas
 mod ReportLaw
 mod RowLemmas
+mod ScramLemmas
 mod SizeLemmas
 mod TextLemmas
 mod TurnLaw

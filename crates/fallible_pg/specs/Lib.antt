@@ -1,4 +1,5 @@
 -- What the clauses of `src/` cite.
+pub mod Base64
 pub mod Cells
 pub mod Columns
 pub mod Csv
@@ -12,6 +13,7 @@ pub mod Progress
 pub mod Reading
 pub mod Report
 pub mod Rows
+pub mod Scram
 pub mod Sent
 pub mod Sizes
 pub mod Strings

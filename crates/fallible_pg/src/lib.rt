@@ -1,6 +1,7 @@
 //! Rows from a server that speaks version 3 of PostgreSQL's protocol, over any reader.
 #![tactic(auto)]
 
+mod base64;
 mod cells;
 mod columns;
 mod csv;
@@ -15,6 +16,7 @@ mod progress;
 mod reading;
 mod report;
 mod rows;
+mod scram;
 mod sending;
 mod strings;
 mod text;
@@ -29,8 +31,9 @@ pub use printing::PgInput;
 pub use reading::{Broken, ReadMessage};
 pub use report::print_rows;
 pub use rows::{Reply, Row, Rows};
+pub use scram::{Answer, Hash, answer_of, scram_first_message};
 pub use sending::{
-    Request, Unsent, password_message, query_message, request_of, startup_message,
-    terminate_message,
+    CancelKey, Request, Unsent, cancel_key_of, cancel_message, password_message, query_message,
+    request_data, request_of, startup_message, terminate_message,
 };
 pub use text::{Format, HoldText, write_row};
