@@ -22,6 +22,7 @@ tables|tools/table_runs.sh|a minute, once sum_table and sum_groups are proved
 groups|tools/groups_runs|minutes, once sum_groups is proved
 elf|tools/elf_runs|minutes, once elf_tables is proved
 pg|tools/pg_runs|2 minutes, once pg_rows is proved; wants PostgreSQL, cargo and GNU time
+pg_logins|tools/pg_logins|a minute; wants PostgreSQL, cargo and apt
 json|tools/json_runs|a minute, once json_tokens is proved
 memory|tools/refused_memory.sh|7 minutes
 speed|tools/speed.sh|the proof of fallible_speed, and then minutes

@@ -23,9 +23,15 @@ host all md5_user 127.0.0.1/32 md5
 host all scram_user 127.0.0.1/32 scram-sha-256
 host all postgres 127.0.0.1/32 trust
 """
+# What Debian's own pg_hba.conf says of databases.
+DEBIAN = """\
+local all postgres peer
+local all all peer
+host all all 127.0.0.1/32 scram-sha-256
+host all all ::1/128 scram-sha-256
+"""
 SETTINGS = """
 listen_addresses = '127.0.0.1'
-unix_socket_directories = ''
 fsync = off
 timezone = 'UTC'
 log_timezone = 'UTC'
@@ -98,8 +104,11 @@ def end(process):
 
 
 @contextlib.contextmanager
-def server():
-    """A server that nothing was stored in, for as long as the block runs. The value is its port."""
+def server(access=None, sockets=""):
+    """A server that nothing was stored in, for as long as the block runs. The value is its port.
+
+    Once it is set up, this `access` is that of its pg_hba.conf. Its Unix socket is in the folder `sockets`, if there is one.
+    """
     folder = Path(tempfile.mkdtemp(prefix="postgres-"))
     log, data, port, who = folder / "log", folder / "data", free_port(), other_user()
     process = None
@@ -110,13 +119,17 @@ def server():
               "--locale=C"], log, cwd=folder, **who)
         (data / "pg_hba.conf").write_text(ACCESS)
         with (data / "postgresql.conf").open("a") as file:
-            file.write(f"{SETTINGS}port = {port}\n")
+            file.write(f"{SETTINGS}port = {port}\nunix_socket_directories = '{sockets}'\n")
         with log.open("a") as file:
             process = subprocess.Popen([programs() / "postgres", "-D", data], cwd=folder, stdin=subprocess.DEVNULL,
                                        stdout=file, stderr=subprocess.STDOUT, **who)
         wait_for(port, process, log)
         done([programs() / "psql", "-q", "-v", "ON_ERROR_STOP=1", "-h", "127.0.0.1", "-p", str(port), "-U", "postgres",
               "-c", SET_UP], log)
+        if access is not None:
+            (data / "pg_hba.conf").write_text(access)
+            process.send_signal(signal.SIGHUP)
+            time.sleep(1)
         yield port
     finally:
         if process:

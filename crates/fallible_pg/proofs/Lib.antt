@@ -1,11 +1,16 @@
+mod Base64Lemmas
 mod CellLemmas
+mod ColumnLemmas
+mod CsvLemmas
 mod DrawLemmas
 mod FieldLemmas
+mod ListLemmas
 mod ListedLaw
 mod PrintLemmas
 mod ReadingLemmas
 mod ReportLaw
 mod RowLemmas
+mod ScramLemmas
 mod SizeLemmas
 mod TextLemmas
 mod TurnLaw

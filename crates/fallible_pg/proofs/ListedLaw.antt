@@ -1,71 +1,19 @@
 -- What draws of messages return over known bytes.
-use Rattle.std.proofs.Common.{◌≡◌, ℕ, zero, suc, ◌+◌, ◌-◌, ◌^◌, ◌<◌, ◌≤◌, ◌⊎◌, inl, inr, Bool, List, [], ◌∷◌, ◌++◌, length, take, drop, Option, Some, None, Result, Ok, Err, refl, sym, ap, subst, ◌∙◌, arith, length-append, length-drop}
-use Rattle.std.proofs.lemmas.List.{take_at, drop_at}
+use Rattle.std.proofs.Common.{◌≡◌, ℕ, zero, suc, ◌+◌, ◌^◌, ◌<◌, ◌≤◌, ◌⊎◌, inl, inr, Bool, List, [], ◌∷◌, length, Option, Some, None, Result, Ok, Err, refl, sym, ap, subst, ◌∙◌, arith, length-append}
 use Rattle.program_io.specs.Bytes.{GivesBytes, NoReadFails}
 use Rattle.fallible_iterator.specs.Making.{IsMadeOf, AtRefusal, GivesMade, ListsMade}
 use Rattle.fallible_iterator.specs.Traces.{Answered, end}
 use Rattle.fallible_pg.specs.Listed.{messages_at, messages_in, messages_of, HasBytes, IsMemory}
 use Rattle.fallible_pg.specs.Messages.{message_bytes}
 use Rattle.fallible_pg.specs.Reading.{messages_parts, message_step, TellsWhy}
-use Rattle.fallible_pg.specs.Sizes.{first_size, IsMessage}
-use Rattle.fallible_pg.proofs.SizeLemmas.{first_size-short}
-use Rattle.fallible_pg.proofs.TurnLaw.{known_left, consumes_given, size_broken}
-use Rattle.fallible_pg.proofs.TurnLemmas.{has_size, first_size-message}
+use Rattle.fallible_pg.specs.Sizes.{first_size}
+use Rattle.fallible_pg.proofs.ListLemmas.{Listed, messages_of-none, messages_of-step, messages_of-message, messages_of-damage}
+use Rattle.fallible_pg.proofs.TurnLaw.{known_left, consumes_given, none_left, size_broken, some_broken, some_came}
 use Rattle.fallible_pg.specs.declared.fault.Damage.{Damage}
-use Rattle.fallible_pg.specs.declared.fault.Damage.TheVariants.{Cut}
 use Rattle.fallible_pg.specs.declared.fault.PgFault.{PgFault}
 use Rattle.fallible_pg.specs.declared.fault.PgFault.TheVariants.{Server, Damaged, Read, Memory}
 use Rattle.fallible_pg.specs.declared.message.Message.{Message}
 use Rattle.fallible_pg.specs.declared.messages.Messages.{Messages}
-
-abbrev Listed : Type 0
-Listed = List (Result (List ℕ) PgFault)
-
--- ---- the list
-
-messages_in-none : (k place : ℕ) → messages_in k place [] ≡ Err (Damaged place Cut) ∷ []
-unfolding messages_in
-messages_in-none zero place = refl
-messages_in-none (suc k) place = rw (first_size-short [] (omega arith)) refl
-
-messages_at-alike : (size : Result ℕ Damage) (place : ℕ) (bytes : List ℕ) (f g : ℕ → List ℕ → Listed) → ((n : ℕ) → size ≡ Ok n → f (place + n) (drop n bytes) ≡ g (place + n) (drop n bytes)) → messages_at size place bytes f ≡ messages_at size place bytes g
-messages_at-alike (Ok n) place bytes f g same = ap {B = Listed} (λ l. Ok (take n bytes) ∷ l) (same n refl)
-messages_at-alike (Err damage) place bytes f g same = refl
-
-messages_in-alike : (k j place : ℕ) (bytes : List ℕ) → length bytes ≤ k → length bytes ≤ j → messages_in k place bytes ≡ messages_in j place bytes
-unfolding messages_in
-messages_in-alike k j place [] p q = messages_in-none k place ∙ sym (messages_in-none j place)
-messages_in-alike zero j place (b ∷ bs) p q = absurd (omega (arith, p))
-messages_in-alike (suc k) zero place (b ∷ bs) p q = absurd (omega (arith, q))
-messages_in-alike (suc k) (suc j) place (b ∷ bs) p q = messages_at-alike (first_size (b ∷ bs)) place (b ∷ bs) (messages_in k) (messages_in j) (λ n is.
-    let h = has_size (b ∷ bs) n is in
-    let size = h.size in
-    let less : length (drop n (b ∷ bs)) ≡ length (b ∷ bs) - n = length-drop n (b ∷ bs) in
-    messages_in-alike k j (place + n) (drop n (b ∷ bs)) (omega (arith, less, size, p)) (omega (arith, less, size, q)))
-
-messages_in-suc : (k place : ℕ) (bytes : List ℕ) → messages_in (suc k) place bytes ≡ messages_at (first_size bytes) place bytes (messages_in k)
-unfolding messages_in
-messages_in-suc k place bytes = refl
-
-messages_of-step : (place : ℕ) (bytes : List ℕ) → messages_of place bytes ≡ messages_at (first_size bytes) place bytes (messages_in (length bytes))
-messages_of-step place bytes = messages_in-alike (length bytes) (suc (length bytes)) place bytes (omega arith) (omega arith) ∙ messages_in-suc (length bytes) place bytes
-
--- a message off the front
-messages_of-message : (place : ℕ) (m rest : List ℕ) → IsMessage m → messages_of place (m ++ rest) ≡ Ok m ∷ messages_of (place + length m) rest
-messages_of-message place m rest is =
-    let all = m ++ rest in
-    let front : take (length m) all ≡ m = take_at m rest (length m) refl in
-    let is_rest : drop (length m) all ≡ rest = drop_at m rest (length m) refl in
-    let long = length-append m rest in
-    messages_of-step place all
-    ∙ ap (λ (s : Result ℕ Damage). messages_at s place all (messages_in (length all))) (first_size-message m rest is)
-    ∙ ap {B = Listed} (λ l. Ok l ∷ messages_in (length all) (place + length m) (drop (length m) all)) front
-    ∙ ap {B = Listed} (λ l. Ok m ∷ l) (ap (messages_in (length all) (place + length m)) is_rest ∙ messages_in-alike (length all) (length rest) (place + length m) rest (omega (arith, long)) (omega arith))
-
-messages_of-damage : (place : ℕ) (bytes : List ℕ) (damage : Damage) → first_size bytes ≡ Err damage → messages_of place bytes ≡ Err (Damaged place damage) ∷ []
-messages_of-damage place bytes damage is = messages_of-step place bytes ∙ ap (λ (s : Result ℕ Damage). messages_at s place bytes (messages_in (length bytes))) is
-
--- ---- draws
 
 module _ {R : Type 0} (left : R → Option (List ℕ)) (stays : Bool → R → R → Type 0) (no_room : List ℕ → Type 0) (never : NoReadFails stays) where
   abbrev steps : Messages R → Answered Message PgFault → Messages R → Type 0
@@ -98,11 +46,11 @@ module _ {R : Type 0} (left : R → Option (List ℕ)) (stays : Bool → R → R
     takes_fault : (fault : PgFault) (begun : List ℕ) (last : R) → (messages_parts t).1 ≡ None → GivesBytes left stays r begun last → TellsWhy left stays no_room place begun last fault (messages_parts t).0 → TakesMade (Err fault) t (messages_of place bytes)
     takes_fault (Server m) begun last none given h = absurd h
     takes_fault (Damaged at damage) begun last none given h =
-        let is = messages_of-damage place bytes damage (size_broken left stays no_room place r known damage (messages_parts t).0 (begun, last, given, h.1)) in
+        let is = messages_of-damage place bytes damage (some_broken left stays no_room place r known damage (messages_parts t).0 (begun, last, given, h.1)) (size_broken left stays no_room place r known damage (messages_parts t).0 (begun, last, given, h.1)) in
         subst (TakesMade (Err (Damaged at damage)) t) (sym is) (inr (ap (λ (p : ℕ). Err (Damaged p damage)) h.0, gives_no_more t none))
     takes_fault Read begun last none given (inl h) = absurd (never last (messages_parts t).0 h.1.1)
     takes_fault Read begun last none given (inr h) = let far = h.0 in absurd (omega (arith, far, fits))
-    takes_fault Memory begun last none given h = subst (TakesMade (Err Memory) t) (sym (messages_of-step place bytes)) (refused (first_size bytes))
+    takes_fault Memory begun last none given h = subst (TakesMade (Err Memory) t) (sym (messages_of-step place bytes (some_came left stays no_room place r known begun last h.3 given))) (refused (first_size bytes))
       where
         refused : (size : Result ℕ Damage) → TakesMade (Err Memory) t (messages_at size place bytes (messages_in (length bytes)))
         refused (Ok k) = inl (inl (Memory, refl, (record {}, refl)))
@@ -116,7 +64,7 @@ module _ {R : Type 0} (left : R → Option (List ℕ)) (stays : Bool → R → R
         let is : messages_of place bytes ≡ Ok (message_bytes m) ∷ messages_of (place + length (message_bytes m)) k.0 = ap (messages_of place) k.2 ∙ messages_of-message place (message_bytes m) k.0 h.1 in
         let rest = fewer t (messages_parts t).0 (place + length (message_bytes m)) k.0 (omega (arith, long, five, few)) (ap (λ (o : Option ℕ). ((messages_parts t).0, o)) h.2) k.1 (omega (arith, long, fits)) in
         subst (TakesMade (Ok (Some m)) t) (sym is) (inr (refl, rest))
-    takes_made (Ok None) h = absurd h
+    takes_made (Ok None) h = subst (TakesMade (Ok None) t) (sym (ap (messages_of place) (none_left left stays r (messages_parts t).0 known h.1) ∙ messages_of-none place)) refl
     takes_made (Err fault) h = let d = h.1 in takes_fault fault d.0 d.1 h.0 d.2 d.3
 
   gives_fewer : (n : ℕ) → GivesFewer n

@@ -1,15 +1,12 @@
 -- What is told of a fault.
 use Rattle.std.specs.Prelude.{ℕ, ◌==◌, List, [], ◌∷◌, ◌++◌, Bool, true, false, ◌||◌, if◌then◌else◌, codes, decimal, drop}
 use Rattle.fallible_pg.specs.declared.fault.Damage.{Damage}
-use Rattle.fallible_pg.specs.declared.fault.Damage.TheVariants.{Cut, Length, Tag, Row}
+use Rattle.fallible_pg.specs.declared.fault.Damage.TheVariants.{Cut, Length, Tag, Row, Columns}
+use Rattle.fallible_pg.specs.Kinds.{is_start}
 use Rattle.fallible_pg.specs.Messages.{message_bytes}
+use Rattle.fallible_pg.specs.Strings.{before_zero}
 use Rattle.fallible_pg.specs.declared.printing.PgInput.{PgInput}
 use Rattle.fallible_pg.specs.declared.printing.PgInput.TheVariants.{Server, Damaged}
-
--- the bytes before the first 0
-unfoldable pub before_zero : List ℕ → List ℕ
-before_zero [] = []
-before_zero (b ∷ bs) = if b == 0 then [] else b ∷ before_zero bs
 
 -- The field that a letter names: the first text that begins with it, without it, of texts that each end with a 0. A text begins here, or it doesn't.
 unfoldable pub field_from : Bool → ℕ → List ℕ → List ℕ
@@ -38,21 +35,13 @@ notice_text message = refusal_text (drop 5 message) ++ 10 ∷ []
 abbrev pub is_copy : ℕ → Bool
 is_copy tag = tag == 71 || tag == 72 || tag == 87 || tag == 99 || tag == 100
 
--- whether the tag is one of the extended protocol
-abbrev pub is_extended : ℕ → Bool
-is_extended tag = tag == 49 || tag == 50 || tag == 51 || tag == 110 || tag == 115 || tag == 116
-
--- whether the tag is one of a session's start: what the server asks for, R, the key by which a query is cancelled, K, or the version that it speaks, v
-abbrev pub is_start : ℕ → Bool
-is_start tag = tag == 82 || tag == 75 || tag == 118
-
 -- whether the tag is that of what a function's call returns, V
 abbrev pub is_call : ℕ → Bool
 is_call tag = tag == 86
 
 -- whether a message with this tag is known, and isn't read
 abbrev pub is_known : ℕ → Bool
-is_known tag = is_copy tag || is_extended tag || is_start tag || is_call tag
+is_known tag = is_copy tag || is_start tag || is_call tag
 
 -- the status of a tag that isn't read
 abbrev pub tag_status : ℕ → ℕ
@@ -61,7 +50,6 @@ tag_status tag = if is_known tag then 7 else 5
 -- what is told of a tag that isn't read
 abbrev pub tag_text : ℕ → List ℕ
 tag_text tag = if is_copy tag then codes "COPY isn't read"
-    else if is_extended tag then codes "the extended protocol isn't read"
     else if is_start tag then codes "a session's start isn't read"
     else if is_call tag then codes "a function's call isn't read"
     else codes "a message has the unknown tag " ++ decimal tag
@@ -72,6 +60,7 @@ damage_status Cut = 6
 damage_status (Length n) = 5
 damage_status (Tag tag) = tag_status tag
 damage_status Row = 5
+damage_status Columns = 5
 
 -- what is told of a damage
 abbrev pub damage_text : Damage → List ℕ
@@ -79,6 +68,7 @@ damage_text Cut = codes "the connection ended within a message"
 damage_text (Length n) = codes "a message states the length " ++ decimal n
 damage_text (Tag tag) = tag_text tag
 damage_text Row = codes "the cells of a row don't fill it"
+damage_text Columns = codes "the columns of a description don't fill it"
 
 -- the status that a program ends with
 abbrev pub status_of : PgInput → ℕ

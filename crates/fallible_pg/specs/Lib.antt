@@ -1,14 +1,21 @@
 -- What the clauses of `src/` cite.
+pub mod Base64
 pub mod Cells
+pub mod Columns
+pub mod Csv
 pub mod Draws
 pub mod Faults
+pub mod Kinds
 pub mod Listed
 pub mod Messages
 pub mod Numbers
+pub mod Progress
 pub mod Reading
 pub mod Report
 pub mod Rows
+pub mod Scram
 pub mod Sent
 pub mod Sizes
+pub mod Strings
 pub mod Text
 pub mod Turns

@@ -16,10 +16,11 @@ messages_at (Err damage) place bytes messages = Err (Damaged place damage) ∷ [
 
 -- the same in so many steps at most
 unfoldable pub messages_in : ℕ → ℕ → List ℕ → List (Result (List ℕ) PgFault)
-messages_in zero place bytes = Err (Damaged place Cut) ∷ []
-messages_in (suc k) place bytes = messages_at (first_size bytes) place bytes (messages_in k)
+messages_in k place [] = []
+messages_in zero place (b ∷ bs) = Err (Damaged place Cut) ∷ []
+messages_in (suc k) place (b ∷ bs) = messages_at (first_size (b ∷ bs)) place (b ∷ bs) (messages_in k)
 
--- the messages of bytes, the first of which has this place, up to the damage that ends them
+-- the messages of bytes, the first of which has this place, up to the end or the damage that ends them
 abbrev pub messages_of : ℕ → List ℕ → List (Result (List ℕ) PgFault)
 messages_of place bytes = messages_in (length bytes) place bytes
 

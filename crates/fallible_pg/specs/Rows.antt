@@ -1,77 +1,70 @@
 -- What a draw of rows takes of the messages.
-use Rattle.std.specs.Prelude.{◌≡◌, ℕ, ◌==◌, Bool, true, false, ◌||◌, if◌then◌else◌, List, All, slice_index, Option, Some, None, Ok, Err}
+use Rattle.std.specs.Prelude.{◌≡◌, ℕ, Bool, true, false, List, All, map, Option, Some, None, Ok, Err}
 use Rattle.fallible_iterator.specs.Traces.{Answered, Yields, item, end}
-use Rattle.fallible_pg.specs.Cells.{is_row}
+use Rattle.fallible_pg.specs.Kinds.{kind_of}
 use Rattle.fallible_pg.specs.Messages.{message_bytes}
+use Rattle.fallible_pg.specs.Progress.{Reached, came, reached_by, shows_progress}
 use Rattle.fallible_pg.specs.Reading.{messages_parts, message_step, place_of}
-use Rattle.fallible_pg.specs.declared.fault.Damage.TheVariants as What
+use Rattle.fallible_pg.specs.declared.fault.Damage.TheVariants.{Cut}
 use Rattle.fallible_pg.specs.declared.fault.PgFault.{PgFault}
 use Rattle.fallible_pg.specs.declared.fault.PgFault.TheVariants as Why
 use Rattle.fallible_pg.specs.declared.message.Message.{Message}
-use Rattle.fallible_pg.specs.declared.rows.Kind.{Kind}
-use Rattle.fallible_pg.specs.declared.rows.Kind.TheVariants.{Row, Notice, Skipped, Refusal, Ready, Damaged}
+use Rattle.fallible_pg.specs.declared.kind.Kind.{Kind}
+use Rattle.fallible_pg.specs.declared.kind.Kind.TheVariants.{Row, Notice, Skipped, Refusal, Ready, Damaged}
 use Rattle.fallible_pg.specs.declared.rows.Reply.{Reply}
 use Rattle.fallible_pg.specs.declared.rows.Reply.TheVariants as Came
 use Rattle.fallible_pg.specs.declared.rows.Row as Item
 use Rattle.fallible_pg.specs.declared.rows.Rows.{Rows}
 
--- whether messages with this tag are skipped: the description of rows, the end of a statement, an empty statement, a parameter, a notification
-abbrev pub is_skipped : ℕ → Bool
-is_skipped tag = tag == 84 || tag == 67 || tag == 73 || tag == 83 || tag == 65
-
--- what a message with this tag is: D a row, N a notice, E a refusal, Z ready for the next query
-abbrev pub kind_by : ℕ → List ℕ → Kind
-kind_by tag bytes = if tag == 68 then (if is_row bytes then Row else Damaged What.Row)
-    else if is_skipped tag then Skipped
-    else if tag == 78 then Notice
-    else if tag == 69 then Refusal
-    else if tag == 90 then Ready
-    else Damaged (What.Tag tag)
-
--- what a message is to one who reads rows
-unfoldable pub kind_of : List ℕ → Kind
-kind_of bytes = kind_by (slice_index bytes 0) bytes
-
--- the parts of rows: those of the messages, and whether they ended
-abbrev pub rows_parts : {R : Type 0} → Rows R → (R × Option ℕ) × Bool
-rows_parts s = (messages_parts s.messages, s.ended)
+-- the parts of rows: those of the messages, how far they have come, and whether they ended
+abbrev pub rows_parts : {R : Type 0} → Rows R → (R × Option ℕ) × Reached × Bool
+rows_parts s = (messages_parts s.messages, shows_progress s.progress, s.ended)
 
 -- the reply has this row, if it is one
 abbrev pub row_in : Reply → Option Item.Row
 row_in (Came.Row row) = Some row
 row_in (Came.Notice m) = None
 
--- what is made of a message of a kind, at a place: a row; a notice; the end; a refusal, after which more may come; or damage
-abbrev pub MadeOfKind : ℕ → Message → Kind → Answered Reply PgFault → Bool → Type 0
-MadeOfKind place m Row answer ended = (answer ≡ item (Came.Row (record { message = m }))) × (ended ≡ false)
-MadeOfKind place m Notice answer ended = (answer ≡ item (Came.Notice m)) × (ended ≡ false)
-MadeOfKind place m Skipped answer ended = ⊥
-MadeOfKind place m Refusal answer ended = (answer ≡ Err (Why.Server m)) × (ended ≡ false)
-MadeOfKind place m Ready answer ended = (answer ≡ end) × (ended ≡ true)
-MadeOfKind place m (Damaged damage) answer ended = (answer ≡ Err (Why.Damaged place damage)) × (ended ≡ true)
+-- the bytes of messages
+abbrev pub all_bytes : List Message → List (List ℕ)
+all_bytes messages = map message_bytes messages
 
--- what is made of the last answer that was drawn
-abbrev pub MadeOfLast : ℕ → Answered Message PgFault → Answered Reply PgFault → Bool → Type 0
-MadeOfLast place (Ok (Some m)) answer ended = MadeOfKind place m (kind_of (message_bytes m)) answer ended
-MadeOfLast place (Ok None) answer ended = (answer ≡ end) × (ended ≡ true)
-MadeOfLast place (Err fault) answer ended = (answer ≡ Err fault) × (ended ≡ true)
+-- what is made of a message of a kind, at a place, where rows have come so far: a row, with how many statements ended before it; a notice; the end; a refusal, after which more may come; or damage
+abbrev pub MadeOfKind : ℕ → Reached → Message → Kind → Answered Reply PgFault → Bool → Type 0
+MadeOfKind place reached m Row answer ended = (answer ≡ item (Came.Row (record { message = m; statement = reached.statements }))) × (ended ≡ false)
+MadeOfKind place reached m Notice answer ended = (answer ≡ item (Came.Notice m)) × (ended ≡ false)
+MadeOfKind place reached m Skipped answer ended = ⊥
+MadeOfKind place reached m Refusal answer ended = (answer ≡ Err (Why.Server m)) × (ended ≡ false)
+MadeOfKind place reached m Ready answer ended = (answer ≡ end) × (ended ≡ true)
+MadeOfKind place reached m (Damaged damage) answer ended = (answer ≡ Err (Why.Damaged place damage)) × (ended ≡ true)
+
+-- what is made of the end of the messages: the end where the server was ready, and else damage
+abbrev pub at_end : Bool → ℕ → Answered Reply PgFault
+at_end true place = end
+at_end false place = Err (Why.Damaged place Cut)
+
+-- what is made of the last answer that was drawn at a place, where rows had come so far, and how far they have come then
+abbrev pub MadeOfLast : ℕ → Reached → Answered Message PgFault → Answered Reply PgFault → Reached → Bool → Type 0
+MadeOfLast place reached (Ok (Some m)) answer new ended = MadeOfKind place reached m (kind_of reached.recorded (message_bytes m)) answer ended × (new ≡ came (kind_of reached.recorded (message_bytes m)) (message_bytes m) reached)
+MadeOfLast place reached (Ok None) answer new ended = (answer ≡ at_end reached.ready place) × (ended ≡ true) × (new ≡ reached)
+MadeOfLast place reached (Err fault) answer new ended = (answer ≡ Err fault) × (ended ≡ true) × (new ≡ reached)
 
 -- the message is skipped
-abbrev pub IsSkipped : Message → Type 0
-IsSkipped m = kind_of (message_bytes m) ≡ Skipped
+abbrev pub IsSkipped : Bool → Message → Type 0
+IsSkipped recorded m = kind_of recorded (message_bytes m) ≡ Skipped
 
 module _ {R : Type 0} (left : R → Option (List ℕ)) (stays : Bool → R → R → Type 0) (no_room : List ℕ → Type 0) where
   -- One draw passes the messages that are skipped, and makes its answer of the next.
-  pub record DrawsRow (p : R × Option ℕ) (answer : Answered Reply PgFault) (q : R × Option ℕ) (ended : Bool) : Type 0 where
+  pub record DrawsRow (p : R × Option ℕ) (reached : Reached) (answer : Answered Reply PgFault) (q : R × Option ℕ) (new : Reached) (ended : Bool) : Type 0 where
     pub skipped : List Message
-    pub each : All IsSkipped skipped
+    pub each : All (IsSkipped reached.recorded) skipped
     pub middle : R × Option ℕ
     pub passed : Yields (message_step left stays no_room) p skipped middle
     pub last : Answered Message PgFault
     pub drawn : message_step left stays no_room middle last q
-    pub made : MadeOfLast (place_of middle.1) last answer ended
+    pub made : MadeOfLast (place_of middle.1) (reached_by reached (all_bytes skipped)) last answer new ended
 
   -- One answer; an end without a read once they ended.
-  abbrev pub rows_step : (R × Option ℕ) × Bool → Answered Reply PgFault → (R × Option ℕ) × Bool → Type 0
-  rows_step (p, false) answer q = DrawsRow p answer q.0 q.1
-  rows_step (p, true) answer q = (answer ≡ end) × (q ≡ (p, true))
+  abbrev pub rows_step : (R × Option ℕ) × Reached × Bool → Answered Reply PgFault → (R × Option ℕ) × Reached × Bool → Type 0
+  rows_step (p, reached, false) answer q = DrawsRow p reached answer q.0 q.1 q.2
+  rows_step (p, reached, true) answer q = (answer ≡ end) × (q ≡ (p, reached, true))

@@ -2,6 +2,7 @@
 use Rattle.std.specs.Prelude.{ℕ, ◌+◌, ◌==◌, ◌&&◌, if◌then◌else◌, nat_le, List, [], ◌∷◌, ◌++◌, length, slice_index, Option, Some, None, codes}
 use Rattle.std.specs.Int.{w32, to_be_bytes}
 use Rattle.fallible_pg.specs.Numbers.{u32_at}
+use Rattle.fallible_pg.specs.declared.sending.CancelKey.{CancelKey}
 use Rattle.fallible_pg.specs.declared.sending.Request.{Request}
 use Rattle.fallible_pg.specs.declared.sending.Request.TheVariants.{Nothing, Password, Other}
 
@@ -40,3 +41,11 @@ request_by n = if n == 0 then Nothing else if n == 3 then Password else Other n
 -- what a message asks for: it has the tag R, and its body begins with a number
 abbrev pub request_of : List ℕ → Option Request
 request_of message = if (slice_index message 0 == 82) && nat_le 9 (length message) then Some (request_by (u32_at message 5)) else None
+
+-- the two numbers by which a query of a session is cancelled, by the message that tells them: it has the tag K, and its body is these
+abbrev pub cancel_key_of : List ℕ → Option CancelKey
+cancel_key_of message = if (slice_index message 0 == 75) && (length message == 13) then Some (record { process = u32_at message 5; secret = u32_at message 9 }) else None
+
+-- what asks a server to cancel the query of a session: a number that stands for this, and the two; it has no tag
+abbrev pub sent_cancel : CancelKey → List ℕ
+sent_cancel key = sent_message [] (to_be_bytes w32 80877102 ++ to_be_bytes w32 key.process ++ to_be_bytes w32 key.secret)

@@ -46,7 +46,7 @@ impl Cells<'_> {
 }
 
 // The bytes after so many.
-fn after(bytes: &[u8], count: usize) -> &[u8]
+pub(crate) fn after(bytes: &[u8], count: usize) -> &[u8]
     requires { count ≤ length bytes.now }
     ensures { result.now ≡ drop count bytes.now }
 {

@@ -1,5 +1,7 @@
 //! What the words of the clauses come to, as functions whose body is empty.
 ghost use Rattle.std.specs.Prelude.{◌≡◌, ℕ, ◌+◌, ◌^◌, ◌≤◌, List, length, Option, Some, Result, false};
+ghost use Rattle.fallible_pg.specs.Progress.{Reached};
+ghost use Rattle.fallible_pg.specs.Text.{Form};
 ghost use Rattle.fallible_iterator.specs.Traces.{Answered};
 ghost use Rattle.fallible_pg.specs.Draws.{DrawsBytes};
 ghost use Rattle.fallible_pg.specs.Report.{ComesTo, IsReportOf};
@@ -17,26 +19,29 @@ use crate::text::HoldText;
 use fallible_iterator::FallibleIterator;
 use program_io::writing::WriteText;
 
-/// A draw of rows reads the bytes of the messages that it skips and of the one that its answer is made of, one at a time, and no byte after these.
+/// A draw of rows reads the bytes of the messages that it skips and of the one that its answer is made of, one at a time, and no byte after these. A row tells how many statements ended before it.
 pub fn law_draw<R: ReadMessage>()
-    ensures { (s t : Rows R) (r : R) (place : ℕ) (answer : Answered Reply PgFault)
-        → rows_parts s ≡ ((r, Some place), false)
+    ensures { (s t : Rows R) (r : R) (place : ℕ) (reached : Reached) (answer : Answered Reply PgFault)
+        → rows_parts s ≡ ((r, Some place), reached, false)
         → ⟦<Rows<R> as FallibleIterator>⟧.contract.steps s answer t
-        → DrawsBytes R.left R.stays R.no_room place r answer (rows_parts t).0 (rows_parts t).1 }
+        → DrawsBytes R.left R.stays R.no_room place reached r answer
+        (rows_parts t).0 (rows_parts t).1 (rows_parts t).2 }
 {}
 
 /// Over a reader that tells its bytes, and none of whose reads fails, rows are a function of these bytes, and so is the first failure: up to an allocation failure, draws return what comes of the bytes, in order, and then `Ok(None)`. They are at most 2 ^ 63.
 pub fn law_turns<R: ReadMessage>()
-    ensures { (s : Rows R) (r : R) (place : ℕ) (bytes : List ℕ) → NoReadFails R.stays
-        → rows_parts s ≡ ((r, Some place), false) → R.left r ≡ Some bytes
+    ensures { (s : Rows R) (r : R) (place : ℕ) (reached : Reached) (bytes : List ℕ)
+        → NoReadFails R.stays
+        → rows_parts s ≡ ((r, Some place), reached, false) → R.left r ≡ Some bytes
         → place + length bytes ≤ 2 ^ 63
-        → GivesTurns ⟦<Rows<R> as FallibleIterator>⟧.contract.steps s (turns_of place bytes) }
+        → GivesTurns ⟦<Rows<R> as FallibleIterator>⟧.contract.steps s
+        (turns_of reached place bytes) }
 {}
 
 /// Over a reader that tells its bytes what `print_rows` prints and tells is a function of these, and so is the fault that it returns, unless a read, an allocation or a write fails.
 pub fn law_report<R: ReadMessage, T: HoldText, W: WriteText, E: WriteText>()
-    ensures { (input after : R) (written written' told told' : Option (List ℕ)) (output : W) (errors : E) (bytes : List ℕ)
+    ensures { (reached : Reached) (form : Form) (input after : R) (written written' told told' : Option (List ℕ)) (output : W) (errors : E) (bytes : List ℕ)
         (outcome : Result (Unit {0}) (RunFault PgInput)) → R.left input ≡ Some bytes
-        → ComesTo R.left R.stays R.no_room T.no_room input after W.failed written written' output E.failed told told' errors outcome
-        → IsReportOf (turns_of 0 bytes) written written' told told' outcome }
+        → ComesTo R.left R.stays R.no_room T.no_room reached form input after W.failed written written' output E.failed told told' errors outcome
+        → IsReportOf form (turns_of reached 0 bytes) written written' told told' outcome }
 {}

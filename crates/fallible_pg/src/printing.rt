@@ -2,10 +2,12 @@
 ghost use Rattle.std.specs.Prelude.{◌≡◌, ◌++◌, OnOk, OnErr, codes};
 ghost use Rattle.std.specs.Io.KnownBytes.{Appends};
 ghost use Rattle.fallible_pg.specs.Messages.{message_bytes};
-ghost use Rattle.fallible_pg.specs.Faults.{status_of, text_of, notice_text, field, before_zero, further_line, refusal_text, is_call, is_copy, is_extended, is_known, is_start, tag_status, tag_text, damage_status, damage_text};
+ghost use Rattle.fallible_pg.specs.Faults.{status_of, text_of, notice_text, field, further_line, refusal_text, is_call, is_copy, is_known, tag_status, tag_text, damage_status, damage_text};
 
 use crate::fault::Damage;
+use crate::kind::is_start;
 use crate::message::Message;
+use crate::strings::before_zero;
 use program_io::fault::InputFault;
 use program_io::writing::WriteText;
 use std::io;
@@ -17,18 +19,6 @@ pub enum PgInput {
     Server(Message),
     /// What it sent is damaged: the place of the message, in bytes from 0, and how.
     Damaged(u64, Damage),
-}
-
-// The bytes before the first 0.
-fn before_zero(bytes: &[u8]) -> &[u8]
-    ensures { result.now ≡ before_zero bytes.now }
-{
-    for place in 0..bytes.len() {
-        if bytes[place] == 0 {
-            return &bytes[..place];
-        }
-    }
-    bytes
 }
 
 // The field of a refusal that a letter names.
@@ -53,20 +43,6 @@ fn is_copy(tag: u8) -> bool
     tag == b'G' || tag == b'H' || tag == b'W' || tag == b'c' || tag == b'd'
 }
 
-// Whether the tag is one of the extended protocol.
-fn is_extended(tag: u8) -> bool
-    ensures { result ≡ is_extended tag }
-{
-    tag == b'1' || tag == b'2' || tag == b'3' || tag == b'n' || tag == b's' || tag == b't'
-}
-
-// Whether the tag is one of a session's start: what the server asks for, the key by which a query is cancelled, or the version that it speaks.
-fn is_start(tag: u8) -> bool
-    ensures { result ≡ is_start tag }
-{
-    tag == b'R' || tag == b'K' || tag == b'v'
-}
-
 // Whether the tag is that of what a function's call returns.
 fn is_call(tag: u8) -> bool
     ensures { result ≡ is_call tag }
@@ -78,7 +54,7 @@ fn is_call(tag: u8) -> bool
 fn is_known(tag: u8) -> bool
     ensures { result ≡ is_known tag }
 {
-    is_copy(tag) || is_extended(tag) || is_start(tag) || is_call(tag)
+    is_copy(tag) || is_start(tag) || is_call(tag)
 }
 
 // The status of a damage.
@@ -148,9 +124,6 @@ fn write_tag<W: WriteText>(tag: u8, errors: &mut W) -> io::Result<()>
     if is_copy(tag) {
         return errors.write_text("COPY isn't read");
     }
-    if is_extended(tag) {
-        return errors.write_text("the extended protocol isn't read");
-    }
     if is_start(tag) {
         return errors.write_text("a session's start isn't read");
     }
@@ -173,6 +146,7 @@ fn write_damage<W: WriteText>(damage: Damage, errors: &mut W) -> io::Result<()>
         }
         Damage::Tag(tag) => write_tag(tag, errors),
         Damage::Row => errors.write_text("the cells of a row don't fill it"),
+        Damage::Columns => errors.write_text("the columns of a description don't fill it"),
     }
 }
 

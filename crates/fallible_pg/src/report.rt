@@ -2,12 +2,13 @@
 ghost use Rattle.std.specs.Prelude.{◌≡◌, Some, false};
 ghost use Rattle.fallible_pg.specs.Report.{ComesTo, PutsReply, as_run_fault};
 ghost use Rattle.fallible_pg.specs.Rows.{rows_parts};
+ghost use Rattle.fallible_pg.specs.Text.{form_of};
 
 use crate::fault::{Damage, PgFault};
 use crate::printing::{PgInput, write_notice};
 use crate::reading::ReadMessage;
 use crate::rows::{Reply, Rows};
-use crate::text::HoldText;
+use crate::text::{Format, HoldText};
 use fallible_iterator::FallibleIterator;
 use program_io::fault::RunFault;
 use program_io::writing::WriteText;
@@ -27,18 +28,19 @@ fn run_fault(fault: PgFault) -> RunFault<PgInput>
 // Prints a row, by one write, or tells of a notice.
 fn put_reply<T: HoldText, W: WriteText, E: WriteText>(
     reply: &Reply,
+    format: Format<'_>,
     text: &mut T,
     output: &mut W,
     errors: &mut E,
 ) -> Result<(), RunFault<PgInput>>
     ensures { PutsReply W.failed (W.written output.old) (W.written output.new) output.new
         E.failed (E.written errors.old) (E.written errors.new) errors.new
-        T.no_room reply.now result }
+        (form_of format.entry) T.no_room reply.now result }
 {
     match reply {
         Reply::Row(row) => {
             // No memory: a buffer refuses a row only for want of room.
-            if !text.hold_row(row) {
+            if !text.hold_row(row, format) {
                 return Err(RunFault::Memory);
             }
             match output.write_bytes(text.held()) {
@@ -53,26 +55,29 @@ fn put_reply<T: HoldText, W: WriteText, E: WriteText>(
     }
 }
 
-/// Prints the rows up to the first fault, and tells `errors` of the notices, each as it comes. A row is written as `write_row` does, by one write. `text` is the buffer that each is put into first, in the place of what it holds.
+/// Prints the rows in a form up to the first fault, and tells `errors` of the notices, each as it comes. A row is written as `write_row` does, by one write. `text` is the buffer that each is put into first, in the place of what it holds.
 ///
 /// It fails with `Input` at the server's refusal and at damage; with `Read` where a read fails, or after 2 ^ 63 bytes; with `Memory` where there is no room for a message, or in `text` for that of a row; with `Write` where a writer fails. Only at `Write` may something have been written that is not whole rows.
 ///
 /// Requires that no row was drawn.
 pub fn print_rows<R: ReadMessage, T: HoldText, W: WriteText, E: WriteText>(
     rows: &mut Rows<R>,
+    format: Format<'_>,
     text: &mut T,
     output: &mut W,
     errors: &mut E,
 ) -> Result<(), RunFault<PgInput>>
-    requires { rows_parts rows.old ≡ (((rows_parts rows.old).0.0, Some 0), false) }
+    requires { rows_parts rows.old
+        ≡ (((rows_parts rows.old).0.0, Some 0), (rows_parts rows.old).1, false) }
     ensures { ComesTo R.left R.stays R.no_room T.no_room
+        (rows_parts rows.old).1 (form_of format.entry)
         (rows_parts rows.old).0.0 (rows_parts rows.new).0.0 W.failed
         (W.written output.old) (W.written output.new) output.new E.failed
         (E.written errors.old) (E.written errors.new) errors.new result }
 {
     for _ in 0..u64::MAX {
         match rows.next() {
-            Ok(Some(reply)) => match put_reply(&reply, text, output, errors) {
+            Ok(Some(reply)) => match put_reply(&reply, format, text, output, errors) {
                 Ok(()) => {}
                 Err(fault) => return Err(fault),
             },

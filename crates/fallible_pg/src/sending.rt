@@ -1,7 +1,7 @@
 //! What a client sends.
-ghost use Rattle.std.specs.Prelude.{◌≡◌, ◌<◌, ◌≤◌, ◌+◌, ◌++◌, length, MatchResult, vec_items};
+ghost use Rattle.std.specs.Prelude.{◌≡◌, ◌<◌, ◌≤◌, ◌+◌, ◌++◌, drop, length, MatchResult, vec_items};
 ghost use Rattle.fallible_pg.specs.Messages.{message_bytes};
-ghost use Rattle.fallible_pg.specs.Sent.{request_of, request_by, sent_message, sent_text, sent_query, sent_password, sent_end, sent_startup};
+ghost use Rattle.fallible_pg.specs.Sent.{cancel_key_of, request_of, request_by, sent_cancel, sent_message, sent_text, sent_query, sent_password, sent_end, sent_startup};
 ghost use Rattle.fallible_pg.specs.declared.sending.Unsent.TheVariants.{Long, Memory};
 
 use crate::message::Message;
@@ -32,7 +32,7 @@ impl From<AllocError> for Unsent {
 const MAX_BODY: usize = 0x3fff_fffb;
 
 // A tag, if there is one, the length and the body.
-fn message_of(alloc: Global, tag: &[u8], body: &[u8]) -> Result<Vec<u8>, Unsent>
+pub(crate) fn message_of(alloc: Global, tag: &[u8], body: &[u8]) -> Result<Vec<u8>, Unsent>
     ensures { MatchResult result
         (λ sent. (vec_items sent ≡ sent_message tag.now body.now) × (length body.now ≤ 1073741819))
         (λ why. why ≡ Long → 1073741819 < length body.now) }
@@ -133,4 +133,45 @@ pub fn request_of(message: &Message) -> Option<Request>
     } else {
         None
     }
+}
+
+/// What a message says after the four bytes of what it asks for.
+pub fn request_data(message: &Message) -> &[u8]
+    ensures { result.now ≡ drop 9 (message_bytes message.now) }
+{
+    let bytes = message.bytes();
+    if bytes.len() < 9 { &[] } else { &bytes[9..] }
+}
+
+/// The two numbers by which a query of a session is cancelled.
+#[derive(Clone, Copy, Debug, PartialEq, Eq)]
+pub struct CancelKey {
+    process: u32,
+    secret: u32,
+}
+
+/// The numbers that a message tells by which a query is cancelled, if it tells them.
+pub fn cancel_key_of(message: &Message) -> Option<CancelKey>
+    ensures { result ≡ cancel_key_of (message_bytes message.now) }
+{
+    let bytes = message.bytes();
+    if message.tag() == b'K' && bytes.len() == 13 {
+        Some(CancelKey {
+            process: u32_at(bytes, 5),
+            secret: u32_at(bytes, 9),
+        })
+    } else {
+        None
+    }
+}
+
+/// What asks a server, over a connection of its own, to cancel the query of a session. It never fails with `Long`.
+pub fn cancel_message(alloc: Global, key: CancelKey) -> Result<Vec<u8>, Unsent>
+    ensures { MatchResult result (λ sent. vec_items sent ≡ sent_cancel key) (λ why. why ≡ Memory) }
+{
+    let mut body = Vec::new(alloc);
+    body.extend_from_slice(&80_877_102u32.to_be_bytes())?;
+    body.extend_from_slice(&key.process.to_be_bytes())?;
+    body.extend_from_slice(&key.secret.to_be_bytes())?;
+    message_of(alloc, &[], body.as_slice())
 }

@@ -3,44 +3,97 @@ ghost use Rattle.std.specs.Prelude.{◌≡◌, ◌∷◌, ℕ, List, OnOk, OnErr
 ghost use Rattle.std.specs.Io.KnownBytes.{Appends};
 ghost use Rattle.fallible_pg.specs.Cells.{shows_cells};
 ghost use Rattle.fallible_pg.specs.Messages.{message_bytes};
-ghost use Rattle.fallible_pg.specs.Text.{drawn_text, further_text, row_text};
+ghost use Rattle.fallible_pg.specs.Text.{drawn_shown, drawn_text, field_text, form_of, further_text, row_text, separator};
 
 use crate::cells::Cells;
+use crate::csv;
 use crate::rows::Row;
 use fallible_iterator::FallibleIterator;
 use program_io::writing::WriteText;
 use std::io;
 
-// The bytes of a cell: none at a NULL.
-fn bytes_of(cell: Option<&[u8]>) -> &[u8]
-    ensures { result.now ≡ drawn_text cell.entry }
-{
-    match cell {
-        Some(bytes) => bytes,
-        None => &[],
+/// In which form rows are printed.
+#[derive(Clone, Copy, Debug, PartialEq, Eq)]
+pub struct Format<'a> {
+    /// What a NULL is printed as.
+    pub null: &'a [u8],
+    /// Whether cells are fields of CSV, with a comma between each two; else they stand as they are, with a bar between.
+    pub csv: bool,
+}
+
+impl<'a> Format<'a> {
+    // What a cell has: its bytes, and what a NULL is printed as.
+    fn shown(self, cell: Option<&'a [u8]>) -> &'a [u8]
+        ensures { result.now ≡ drawn_shown (form_of self.entry) cell.entry }
+    {
+        match cell {
+            Some(bytes) => bytes,
+            None => self.null,
+        }
+    }
+
+    // What stands between two cells.
+    fn separator(self) -> u8
+        ensures { result ≡ separator (form_of self.entry) }
+    {
+        if self.csv { b',' } else { b'|' }
     }
 }
 
-// Writes a bar and a cell.
-fn write_further_cell<W: WriteText>(cell: Option<&[u8]>, writer: &mut W) -> io::Result<()>
+// Writes what a cell has.
+fn write_shown<W: WriteText>(format: Format<'_>, field: &[u8], writer: &mut W) -> io::Result<()>
     ensures whole { OnOk result (Appends (W.written writer.old) (W.written writer.new)
-        (124 ∷ drawn_text cell.entry)) }
+        (field_text (form_of format.entry) field.now)) }
     ensures failed { OnErr result (W.failed writer.new) }
 {
-    writer.write_bytes(b"|")?;
-    writer.write_bytes(bytes_of(cell))
+    if format.csv {
+        csv::write_field(field, writer)
+    } else {
+        writer.write_bytes(field)
+    }
 }
 
-// Writes the further cells, a bar before each, and a newline.
-fn write_further<W: WriteText>(cells: &mut Cells<'_>, writer: &mut W) -> io::Result<()>
+// Writes a cell.
+fn write_cell<W: WriteText>(
+    format: Format<'_>,
+    cell: Option<&[u8]>,
+    writer: &mut W,
+) -> io::Result<()>
     ensures whole { OnOk result (Appends (W.written writer.old) (W.written writer.new)
-        (further_text (shows_cells cells.old))) }
+        (drawn_text (form_of format.entry) cell.entry)) }
+    ensures failed { OnErr result (W.failed writer.new) }
+{
+    write_shown(format, format.shown(cell), writer)
+}
+
+// Writes a separator and a cell.
+fn write_further_cell<W: WriteText>(
+    format: Format<'_>,
+    cell: Option<&[u8]>,
+    writer: &mut W,
+) -> io::Result<()>
+    ensures whole { OnOk result (Appends (W.written writer.old) (W.written writer.new)
+        (separator (form_of format.entry) ∷ drawn_text (form_of format.entry) cell.entry)) }
+    ensures failed { OnErr result (W.failed writer.new) }
+{
+    writer.write_bytes(&[format.separator()])?;
+    write_cell(format, cell, writer)
+}
+
+// Writes the further cells, a separator before each, and a newline.
+fn write_further<W: WriteText>(
+    format: Format<'_>,
+    cells: &mut Cells<'_>,
+    writer: &mut W,
+) -> io::Result<()>
+    ensures whole { OnOk result (Appends (W.written writer.old) (W.written writer.new)
+        (further_text (form_of format.entry) (shows_cells cells.old))) }
     ensures failed { OnErr result (W.failed writer.new) }
 {
     let count = cells.left();
     for _ in 0..count {
         match cells.next() {
-            Ok(Some(cell)) => match write_further_cell(cell, writer) {
+            Ok(Some(cell)) => match write_further_cell(format, cell, writer) {
                 Ok(()) => {}
                 Err(error) => return Err(error),
             },
@@ -51,16 +104,16 @@ fn write_further<W: WriteText>(cells: &mut Cells<'_>, writer: &mut W) -> io::Res
     writer.write_bytes(b"\n")
 }
 
-/// Writes a row as `psql -A -t` does: its cells with a bar between each two, a NULL as nothing, and a newline. A row without cells is nothing.
-pub fn write_row<W: WriteText>(row: &Row, writer: &mut W) -> io::Result<()>
+/// Writes a row as `psql -A -t` does, or as `psql --csv -t` does: its cells with a separator between each two, and a newline. A row without cells is nothing.
+pub fn write_row<W: WriteText>(row: &Row, format: Format<'_>, writer: &mut W) -> io::Result<()>
     ensures whole { OnOk result (Appends (W.written writer.old) (W.written writer.new)
-        (row_text (message_bytes row.now.message))) }
+        (row_text (form_of format.entry) (message_bytes row.now.message))) }
     ensures failed { OnErr result (W.failed writer.new) }
 {
     let mut cells = row.cells();
     match cells.next() {
-        Ok(Some(cell)) => match writer.write_bytes(bytes_of(cell)) {
-            Ok(()) => write_further(&mut cells, writer),
+        Ok(Some(cell)) => match write_cell(format, cell, writer) {
+            Ok(()) => write_further(format, &mut cells, writer),
             Err(error) => Err(error),
         },
         Ok(None) => Ok(()),
@@ -77,8 +130,9 @@ pub trait HoldText {
     ghost no_room: { List ℕ → Type 0 };
 
     /// Puts the text of a row, as `write_row` writes it, in the place of what it holds. Whether there was room.
-    fn hold_row(&mut self, row: &Row) -> bool
-        ensures text { result ≡ true → held self.new ≡ row_text (message_bytes row.now.message) }
+    fn hold_row(&mut self, row: &Row, format: Format<'_>) -> bool
+        ensures text { result ≡ true
+            → held self.new ≡ row_text (form_of format.entry) (message_bytes row.now.message) }
         ensures no_room { result ≡ false → no_room (message_bytes row.now.message) };
 
     /// The text that it holds.
@@ -92,9 +146,9 @@ impl HoldText for Vec<u8> {
     // Std says of no request that it is granted.
     ghost no_room = { λ _. ⊤ };
 
-    fn hold_row(&mut self, row: &Row) -> bool {
+    fn hold_row(&mut self, row: &Row, format: Format<'_>) -> bool {
         self.clear();
-        write_row(row, self).is_ok()
+        write_row(row, format, self).is_ok()
     }
 
     fn held(&self) -> &[u8] {

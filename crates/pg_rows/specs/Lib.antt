@@ -1,2 +1,2 @@
 -- What the clauses of `src/` cite.
-pub mod Program
+pub mod Words

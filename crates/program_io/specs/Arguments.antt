@@ -47,11 +47,15 @@ abbrev pub asked_after_options : List (String Global) → Asked
 asked_after_options [] = Standard
 asked_after_options (word ∷ words) = with_further (asked_named word) words
 
+-- what a word and those after it ask for
+abbrev pub asked_from : String Global → List (String Global) → Asked
+asked_from word words = if bytes_eq (string_bytes word) (codes "--") then asked_after_options words else with_further (asked_first word) words
+
 -- what a program's words ask for, of which the first is its name: standard input, where there is no other
 abbrev pub asked_by : List (String Global) → Asked
 asked_by [] = Standard
 asked_by (name ∷ []) = Standard
-asked_by (name ∷ word ∷ words) = if bytes_eq (string_bytes word) (codes "--") then asked_after_options words else with_further (asked_first word) words
+asked_by (name ∷ word ∷ words) = asked_from word words
 
 -- ---- what is told
 

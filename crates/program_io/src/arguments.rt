@@ -3,7 +3,7 @@ ghost use Rattle.std.specs.Prelude.{◌≡◌, ◌≢◌, ◌⊎◌, Err, None, 
 ghost use Rattle.std.specs.Vec.Iter.{into_iter_items};
 ghost use Rattle.std.specs.IoError.{error_kind};
 ghost use Rattle.std.specs.Io.KnownBytes.{Appends, Keeps};
-ghost use Rattle.program_io.specs.Arguments.{EndsTold, IsFaultOfWords, IsGiven, asked_by, asked_first, asked_named, input_left, reason_of, reason_text, text_of, unopened_text, with_further, word_text};
+ghost use Rattle.program_io.specs.Arguments.{EndsTold, IsFaultOfWords, IsGiven, asked_by, asked_first, asked_from, asked_named, input_left, reason_of, reason_text, text_of, unopened_text, with_further, word_text};
 ghost use Rattle.program_io.specs.Faults.{line_of, status_of};
 
 use crate::fault::{InputFault, RunFault, fault_line};
@@ -65,14 +65,10 @@ fn with_further(asked: Asked, mut words: Args) -> Asked
     }
 }
 
-/// What a program's words ask for, of which the first is its name. No other word asks for standard input, and so does `-`; `--help` and `-h` ask for the usage text, and a word that doesn't begin with `-` for the file at that path. After `--`, which ends the options, so does each other word than `-`. `Unexpected` tells the first word that is none of these, or that comes after one for an input.
-pub fn asked_by(mut words: Args) -> Asked
-    ensures { result ≡ asked_by (into_iter_items words) }
+/// What a word and those after it ask for, as `asked_by` says of the second word on.
+pub fn asked_from(word: String, mut words: Args) -> Asked
+    ensures { result ≡ asked_from word (into_iter_items words) }
 {
-    let _ = words.next();
-    let Some(word) = words.next() else {
-        return Asked::Standard;
-    };
     if word.as_str() != "--" {
         return with_further(asked_first(word), words);
     }
@@ -82,16 +78,27 @@ pub fn asked_by(mut words: Args) -> Asked
     }
 }
 
-// Why a file can't be opened.
+/// What a program's words ask for, of which the first is its name. No other word asks for standard input, and so does `-`; `--help` and `-h` ask for the usage text, and a word that doesn't begin with `-` for the file at that path. After `--`, which ends the options, so does each other word than `-`. `Unexpected` tells the first word that is none of these, or that comes after one for an input.
+pub fn asked_by(mut words: Args) -> Asked
+    ensures { result ≡ asked_by (into_iter_items words) }
+{
+    let _ = words.next();
+    match words.next() {
+        Some(word) => asked_from(word, words),
+        None => Asked::Standard,
+    }
+}
+
+/// Why a file can't be opened.
 #[derive(Clone, Copy, Debug)]
-enum Reason {
-    // There is none.
+pub enum Reason {
+    /// There is none.
     Missing,
-    // It is a folder.
+    /// It is a folder.
     Folder,
-    // The system doesn't permit it.
+    /// The system doesn't permit it.
     Forbidden,
-    // Something else.
+    /// Something else.
     Other,
 }
 
@@ -133,14 +140,14 @@ fn opened<R: Files>(rt: &R, path: &str) -> Result<R::File, Reason> {
     }
 }
 
-// What is wrong with a program's words.
+/// What is wrong with a program's words.
 #[derive(Drop)]
-enum Refusal<'a> {
-    // This word asks for nothing that there is. The usage text is told after it.
+pub enum Refusal<'a> {
+    /// This word asks for nothing that there is. The usage text is told after it.
     Word(String, &'a str),
-    // The file at this path can't be opened.
+    /// The file at this path can't be opened.
     Unopened(String, Reason),
-    // A word is not UTF-8.
+    /// A word is not UTF-8.
     NoText,
 }
 
@@ -196,8 +203,8 @@ impl InputFault for Refusal<'_> {
     }
 }
 
-// Tells `errors` of a fault, if that can be written. The status that the program ends with.
-fn told<E: WriteText>(fault: &RunFault<Refusal<'_>>, errors: &mut E) -> u8
+/// Tells `errors` of a fault of the program's words, if that can be written. The status that the program ends with.
+pub fn told<E: WriteText>(fault: &RunFault<Refusal<'_>>, errors: &mut E) -> u8
     ensures status { result ≡ status_of (λ _. 2) fault.now }
     ensures line { Appends (E.written errors.old) (E.written errors.new)
         (line_of text_of None fault.now) ⊎ E.failed errors.new }
@@ -260,17 +267,17 @@ fn fault_of_words<'a>(error: &io::Error) -> RunFault<Refusal<'a>>
     }
 }
 
-// What the system's words ask for, or why that is not known.
-fn asked_of<'a, R: Env + AllocGlobal>(rt: &R) -> Result<Asked, RunFault<Refusal<'a>>>
+/// The program's words, of which the first is its name; or why they are not known: memory runs out, or one is not UTF-8.
+pub fn words_of<'a, R: Env + AllocGlobal>(rt: &R) -> Result<Args, RunFault<Refusal<'a>>>
     ensures { IfErr result (λ fault. (kind : ErrorKind) × IsFaultOfWords kind fault) }
 {
     match env::args(rt) {
-        Ok(words) => Ok(asked_by(words)),
+        Ok(words) => Ok(words),
         Err(error) => Err(fault_of_words(&error)),
     }
 }
 
-/// What the program reads, by its words (`asked_by`). Where that is nothing, the status that it ends with: 0 after `--help`, for which the usage text is printed; 4 where that fails; 2 at a word that it doesn't take or that is not UTF-8, and where the file can't be opened; 3 where memory runs out. `errors` is told of all but the first, of a word with the usage text. `output` is written to at `--help` alone.
+/// What the program reads, by its words (`asked_by`). Where that is nothing, the status that it ends with, as of `input_asked`; also 2 at a word that is not UTF-8, and 3 where there is no memory for the words.
 pub fn input_of<R: Env + Files + AllocGlobal, S: Read + Drop, W: WriteText, E: WriteText>(
     rt: &R,
     standard: S,
@@ -291,14 +298,42 @@ pub fn input_of<R: Env + Files + AllocGlobal, S: Read + Drop, W: WriteText, E: W
     ensures told { IfErr result
         (EndsTold (E.written errors.old) (E.written errors.new) (E.failed errors.new)) }
 {
-    let fault = match asked_of(rt) {
-        Ok(Asked::Standard) => {
+    match words_of(rt) {
+        Ok(words) => input_asked(rt, asked_by(words), standard, usage, output, errors),
+        Err(fault) => Err(told(&fault, errors)),
+    }
+}
+
+/// What the program reads, by what its words ask for. Where that is nothing, the status that the program ends with: 0 after `--help`, for which the usage text is printed; 4 where that fails; 2 at a word that it doesn't take, and where the file can't be opened. `errors` is told of all but the first, of a word with the usage text. `output` is written to at `--help` alone.
+pub fn input_asked<R: Files, S: Read + Drop, W: WriteText, E: WriteText>(
+    rt: &R,
+    asked: Asked,
+    standard: S,
+    usage: &str,
+    output: &mut W,
+    errors: &mut E,
+) -> Result<Given<S, R::File>, u8>
+    ensures given { IfOk result (IsGiven standard) }
+    ensures input { OnOk result (Keeps (W.written output.old) (W.written output.new)
+        × Keeps (E.written errors.old) (E.written errors.new)) }
+    ensures help { result ≡ Err 0
+        → Appends (W.written output.old) (W.written output.new) (usage.now ++ 10 ∷ [])
+        × Keeps (E.written errors.old) (E.written errors.new) }
+    ensures print { result ≡ Err 4 → W.failed output.new }
+    ensures refused { OnErr result (result ≢ Err 0 → result ≢ Err 4
+        → Keeps (W.written output.old) (W.written output.new)) }
+    // Each status but 0 is that of a fault, of which `errors` is told.
+    ensures told { IfErr result
+        (EndsTold (E.written errors.old) (E.written errors.new) (E.failed errors.new)) }
+{
+    let fault = match asked {
+        Asked::Standard => {
             return Ok(Given {
                 input: Input::Standard(standard),
                 name: None,
             });
         }
-        Ok(Asked::File(path)) => match opened(rt, path.as_str()) {
+        Asked::File(path) => match opened(rt, path.as_str()) {
             Ok(file) => {
                 return Ok(Given {
                     input: Input::File(file),
@@ -307,9 +342,8 @@ pub fn input_of<R: Env + Files + AllocGlobal, S: Read + Drop, W: WriteText, E: W
             }
             Err(reason) => RunFault::Input(Refusal::Unopened(path, reason)),
         },
-        Ok(Asked::Help) => return Err(help(usage, output, errors)),
-        Ok(Asked::Unexpected(word)) => RunFault::Input(Refusal::Word(word, usage)),
-        Err(fault) => fault,
+        Asked::Help => return Err(help(usage, output, errors)),
+        Asked::Unexpected(word) => RunFault::Input(Refusal::Word(word, usage)),
     };
     Err(told(&fault, errors))
 }

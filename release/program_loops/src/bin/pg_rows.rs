@@ -1,4 +1,4 @@
-//! What `pg_rows` prints of what a PostgreSQL server sent after a query, by one loop over the messages. It makes the same checks, and writes each row at once.
+//! What `pg_rows` prints of what a PostgreSQL server sent in a session, by one loop over the messages. It makes the same checks, and writes each row at once.
 use std::io::{self, BufRead, BufReader, Read, Write};
 use std::process::ExitCode;
 
@@ -49,15 +49,18 @@ fn field(letter: u8, fields: &[u8]) -> String {
 fn unread(place: u64, tag: u8) -> Fault {
     match tag {
         b'G' | b'H' | b'W' | b'c' | b'd' => (7, format!("byte {place}: COPY isn't read")),
-        b'1' | b'2' | b'3' | b'n' | b's' | b't' => (7, format!("byte {place}: the extended protocol isn't read")),
+        b'V' => (7, format!("byte {place}: a function's call isn't read")),
         _ => (5, format!("byte {place}: a message has the unknown tag {tag}")),
     }
 }
 
 fn run(mut input: impl BufRead, output: &mut impl Write) -> Result<(), Fault> {
-    let (mut bytes, mut text, mut place) = (Vec::new(), Vec::new(), 0);
+    let (mut bytes, mut text, mut place, mut ready) = (Vec::new(), Vec::new(), 0, false);
     loop {
         bytes.clear();
+        if ready && input.fill_buf().or(Err((2, "read failed".into())))?.is_empty() {
+            return Ok(());
+        }
         read(&mut input, &mut bytes, 5, place)?;
         let length = number(&bytes[1..]);
         if !(4..1 << 30).contains(&length) {
@@ -70,10 +73,11 @@ fn run(mut input: impl BufRead, output: &mut impl Write) -> Result<(), Fault> {
                 output.write_all(&text).or(Err((4, "write failed".into())))?;
             }
             b'E' => return Err((1, format!("{}:  {}", field(b'S', &bytes[5..]), field(b'M', &bytes[5..])))),
-            b'Z' => return Ok(()),
-            b'T' | b'C' | b'I' | b'N' | b'S' | b'A' => {}
+            b'T' | b'C' | b'I' | b'N' | b'S' | b'A' | b'Z' | b'R' | b'K' | b'v' => {}
+            b'1' | b'2' | b'3' | b'n' | b's' | b't' => {}
             tag => return Err(unread(place, tag)),
         }
+        ready = bytes[0] == b'Z' || ready && matches!(bytes[0], b'N' | b'S' | b'A');
         place += bytes.len() as u64;
     }
 }

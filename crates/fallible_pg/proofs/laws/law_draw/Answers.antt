@@ -3,4 +3,4 @@ use Rattle.fallible_pg.proofs.DrawLemmas.{draws_bytes_of}
 use Rattle.fallible_pg.proofs.laws.law_draw.Goals as goal
 
 pub returns : goal.returns
-returns g c = λ s t r place answer is h. draws_bytes_of g.R.ReadByte.left g.R.ReadByte.stays g.R.ReadMessage.no_room (rows_parts t) r place answer is h
+returns g c = λ s t r place reached answer is h. draws_bytes_of g.R.ReadByte.left g.R.ReadByte.stays g.R.ReadMessage.no_room (rows_parts t) r place reached answer is h
