@@ -57,6 +57,7 @@ pub use Rattle.fallible_itertools_adapters.proofs.Lemmas.UniqueBy
 pub use Rattle.fallible_itertools_adapters.proofs.Lemmas.UniqueByOf
 pub use Rattle.fallible_itertools_adapters.proofs.Lemmas.UniqueOf
 pub use Rattle.fallible_itertools_adapters.proofs.Lemmas.UnlessRefused
+pub use Rattle.fallible_itertools_adapters.proofs.Lemmas.WindowHints
 pub use Rattle.fallible_itertools_adapters.proofs.Lemmas.WithPosition
 pub use Rattle.fallible_itertools_adapters.proofs.Lemmas.ZipEq
 pub use Rattle.fallible_itertools_adapters.proofs.Lemmas.ZipLongest

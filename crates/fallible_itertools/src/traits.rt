@@ -376,7 +376,7 @@ pub trait FallibleItertools: FallibleIterator {
     where
         Self::Item: Clone + Drop,
         Self::Error: From<AllocError>,
-        ensures parts { tuple_windows_parts result ≡ (self, ((None, tt), None)) }
+        ensures parts { tuple_windows_parts result ≡ (self, None) }
         ensures lists { (l : List (Result Self.Item Self.Error))
             → list.Lists Self.contract.steps self l
             → ((x y : Self.Item) → Self.Item.is_clone x y → y ≡ x)
@@ -409,7 +409,7 @@ pub trait FallibleItertools: FallibleIterator {
     final fn tuples(self) -> Tuples<Self>
     where
         Self::Item: Drop,
-        ensures parts { tuples_parts result ≡ (self, ((None, tt), None)) }
+        ensures parts { tuples_parts result ≡ (self, None) }
         ensures lists { (l : List (Result Self.Item Self.Error))
             → list.Lists Self.contract.steps self l
             → list.Lists (seen_as tuples_parts (tuples_contract Self.contract)).steps result

@@ -58,6 +58,7 @@ pub mod UniqueBy
 pub mod UniqueByOf
 pub mod UniqueOf
 pub mod UnlessRefused
+pub mod WindowHints
 pub mod WithPosition
 pub mod ZipEq
 pub mod ZipLongest

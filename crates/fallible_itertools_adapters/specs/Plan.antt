@@ -4,8 +4,7 @@ use Rattle.fallible_iterator.specs.Traces.{Answered}
 use Rattle.fallible_iterator.specs.Contract.{Contract}
 use Rattle.fallible_iterator.specs.Closures.{IsCallable}
 use Rattle.fallible_iterator.specs.Passing.{IfItem}
-use Rattle.fallible_itertools_adapters.specs.Staging.{Made, nothing_comes, one_made, stage_contract, stage_meets, stop_answer}
-use Rattle.std.specs.declared.convert.Infallible.{Infallible}
+use Rattle.fallible_itertools_adapters.specs.Staging.{Made, one_made, stage_contract, stage_meets, stop_answer}
 
 -- what is made, and what is held then
 abbrev pub Making : Type 0 → Type 0 → Type 0 → Type 0 → Type 0
@@ -91,7 +90,3 @@ module _ {S H F Q R X B L E : Type 0} (m : Contract S X E) (comes : L → Option
 
   abbrev pub closure_contract : (F → Q → Type 0) → (H → X → Plan Q R (Making H B L E)) → (H → Option E → Making H B L E) → ℕ → (H → ℕ) → (H → Option L → HintPlan) → Contract (S × ((H × F) × Option L)) B E
   closure_contract takes plan stops most held hint = stage_contract m comes (plan_meets call plan stops) (plan_can call plan stops takes) most (λ p. held p.0) (plan_hint m hint)
-
--- The contract where at most one answer comes of an item, none is held, and nothing is ever due: the bounds are the source's.
-abbrev pub within_source_contract : {S H F Q R X B E : Type 0} → Contract S X E → (F → Q → R → F → Type 0) → (H → X → Plan Q R (Making H B Infallible E)) → (H → Option E → Making H B Infallible E) → (H → Option Infallible → HintPlan) → Contract (S × ((H × F) × Option Infallible)) B E
-within_source_contract m call plan stops hint = record (plan_contract m nothing_comes call plan stops 1 none_held hint) { bound = λ p n. m.bound p.0 n; remaining = λ p. m.remaining p.0 }

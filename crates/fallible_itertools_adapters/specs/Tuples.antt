@@ -1,35 +1,33 @@
 -- `Tuples`, which yields the items two by two.
-use Rattle.std.specs.Prelude.{ℕ, Option, Some, None, Result, Ok, Err, List, [], ◌∷◌}
-use Rattle.fallible_iterator.specs.Traces.{Answered, item}
+use Rattle.std.specs.Prelude.{◌≡◌, ℕ, Option, Some, None, Result, Ok, Err, List, [], ◌∷◌, ⊤}
+use Rattle.fallible_iterator.specs.Traces.{Answered}
 use Rattle.fallible_iterator.specs.Contract.{Contract, Inverse}
 use Rattle.fallible_iterator.specs.Hints.{hint_kept}
-use Rattle.fallible_itertools_adapters.specs.Plan.{HintPlan, Making, Plan, calls, calls_nothing, makes, passes, plan_meets, within_source_contract}
-use Rattle.fallible_itertools_adapters.specs.Staging.{StagedTrace, nothing_comes, one_made}
-use Rattle.std.specs.declared.convert.Infallible.{Infallible}
+use Rattle.fallible_iterator.specs.Passing.{PassTrace, passing_contract}
+use Rattle.fallible_itertools_adapters.specs.Outcomes.{as_answered_item}
+use Rattle.fallible_iterator.specs.Outcome.{Outcome}
+use Rattle.fallible_iterator.specs.Outcome.TheVariants.{Kept, LeftOut}
 use Rattle.fallible_itertools_adapters.specs.declared.tuples.Tuples.{Tuples}
 use Rattle.std.proofs.Common.{refl}
 
--- The first item of a pair is held, and nothing is made of it. The next one comes beside it, and none is held then.
-abbrev pub tuples_plan : {A E : Type 0} → Option A → A → Plan (Unit {0}) (Unit {0}) (Making (Option A) (A × A) Infallible E)
-tuples_plan None x = makes (None, Some x)
-tuples_plan (Some y) x = makes (one_made (item (y, x)), None)
+module _ {A E : Type 0} where
+  -- The first item of a pair is left out, and held then. The next one is yielded beside it, and none is held then.
+  abbrev pub tuples_asks : Option A → A → Outcome (A × A) E → Option A → Type 0
+  tuples_asks None x o q = (o ≡ LeftOut) × (q ≡ Some x)
+  tuples_asks (Some y) x o q = (o ≡ Kept (y, x)) × (q ≡ None)
+
+  -- `Tuples`: the source's trace where each second item is replaced by the pair of the one before it and itself, and the others are left out; failures and ends between two part nothing.
+  abbrev pub TuplesTrace : {S : Type 0} → (S → Answered A E → S → Type 0) → S × Option A → List (Answered (A × A) E) → S × Option A → Type 0
+  TuplesTrace steps p trace q = PassTrace steps tuples_asks as_answered_item p trace q
 
 -- how many items come before the one that completes a pair
 abbrev pub items_before_pair : {A : Type 0} → Option A → ℕ
 items_before_pair None = 1
 items_before_pair (Some y) = 0
 
--- of the items of the source every second one counts
-abbrev pub tuples_hint : {A : Type 0} → Option A → Option Infallible → HintPlan
-tuples_hint held due = calls tt (hint_kept 1 (items_before_pair held))
-
--- `Tuples`: the source's trace where each second item is replaced by the pair of the one before it and itself, and the others are left out; failures and ends between two part nothing. The parts are the source, and the item that is held; nothing is due.
-abbrev pub TuplesTrace : {S A E : Type 0} → (S → List (Answered A E) → S → Type 0) → S × ((Option A × Unit {0}) × Option Infallible) → List (Answered (A × A) E) → S × ((Option A × Unit {0}) × Option Infallible) → Type 0
-TuplesTrace traces p trace q = StagedTrace traces nothing_comes (plan_meets calls_nothing tuples_plan passes) p trace q
-
--- `Tuples`' contract. It requires no bound of the source: one draw leaves out one item at most.
-abbrev pub tuples_contract : {S A E : Type 0} → Contract S A E → Contract (S × ((Option A × Unit {0}) × Option Infallible)) (A × A) E
-tuples_contract m = within_source_contract m calls_nothing tuples_plan passes tuples_hint
+-- `Tuples`' contract: of the items of the source every second one counts in the hint. It requires no bound of the source: one draw leaves out one item at most.
+abbrev pub tuples_contract : {S A E : Type 0} → Contract S A E → Contract (S × Option A) (A × A) E
+tuples_contract m = passing_contract m tuples_asks (λ Q p. ⊤) as_answered_item (λ p h. (k : ℕ × Option ℕ) × m.hints p.0 k × (h ≡ hint_kept 1 (items_before_pair p.1) k))
 
 -- the source
 abbrev pub tuples_source : {I A E : Type 0} → Tuples I A E → I
@@ -37,15 +35,15 @@ tuples_source s = s.it
 
 -- the item that is held, if there is one
 abbrev pub tuples_held : {I A E : Type 0} → Tuples I A E → Option A
-tuples_held s = s.stage.0.0
+tuples_held s = s.held
 
 -- the source, and the item that is held
-abbrev pub tuples_parts : {I A E : Type 0} → Tuples I A E → I × ((Option A × Unit {0}) × Option Infallible)
-tuples_parts s = (tuples_source s, s.stage)
+abbrev pub tuples_parts : {I A E : Type 0} → Tuples I A E → I × Option A
+tuples_parts s = (tuples_source s, tuples_held s)
 
 -- and back
 pub tuples_made : {I A E : Type 0} → Inverse (tuples_parts {I = I} {A = A} {E = E})
-tuples_made = record { make = λ p. record { it = p.0; stage = p.1 }; made = λ s. refl; has = λ p. refl }
+tuples_made = record { make = λ p. record { it = p.0; held = p.1 }; made = λ s. refl; has = λ p. refl }
 
 -- ---- what it lists
 

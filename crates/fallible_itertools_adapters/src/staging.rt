@@ -3,7 +3,7 @@ ghost use Rattle.std.specs.Prelude.{◌≡◌, ℕ, if◌then◌else◌, Option,
 ghost use Rattle.fallible_iterator.specs.Folds.{CallableDriving, Driven, TurnThrough, beside, beside_names};
 ghost use Rattle.fallible_iterator.specs.Passing.{IfItem};
 ghost use Rattle.fallible_itertools_adapters.specs.BeforeStop.{before_stop, held_hint};
-ghost use Rattle.fallible_itertools_adapters.specs.Staging.{DrawsUpTo, DueTakes, DueTold, IsStage, MadeTakes, MadeTold, Met, MetTakes, PassesNoneOver, PassesOneOver, StageTurns, TakesAll, Told, due_comes, due_left, made_before, one_made, stage_meets, stage_step, stop_answer};
+ghost use Rattle.fallible_itertools_adapters.specs.Staging.{DrawsUpTo, DueTakes, DueTold, IsStage, MadeTakes, MadeTold, Met, MetTakes, PassesNoneOver, StageTurns, TakesAll, Told, due_comes, due_left, made_before, one_made, stage_meets, stage_step, stop_answer};
 ghost use Rattle.std.specs.declared.ops.ControlFlow.TheVariants.{Break};
 
 use fallible_iterator::extending::Beside;
@@ -461,41 +461,5 @@ fn at_stop<P, X, E, G: Stage<P, X, E>, C, R, K: Turn<C, G::Kept, R>>(
     match tell_made(adapter.on_stop(held, stop), adapter, state, turn) {
         ControlFlow::Break(told) => told,
         ControlFlow::Continue(()) => unreachable!(),
-    }
-}
-
-/// One answer of an adapter that makes nothing of one item at most, and may always be called: what is due, without a draw, or what one draw makes, or a second.
-pub fn next_past_one<I: FallibleIterator, P, G: Stage<P, I::Item, I::Error>>(
-    it: &mut I,
-    stage: &mut (P, Option<G::Due>),
-    adapter: &G,
-) -> Result<Option<G::Kept>, I::Error>
-where
-    requires can_next { I.contract.can_next it.old }
-    requires takes { (p : P) (x : I.Item) → G.can_meet adapter.now p x }
-    requires makes { PassesOneOver (stage_meets (G.items adapter.now) (G.stops adapter.now)) }
-    ensures { stage_step (G.comes adapter.now)
-        (stage_meets (G.items adapter.now) (G.stops adapter.now)) I.contract.steps
-        (it.old, stage.old) result (it.new, stage.new) }
-{
-    match stage.1.take() {
-        Some(due) => {
-            let (answer, left) = adapter.answer_due(due);
-            put_due(&mut stage.1, left);
-            answer
-        }
-        None => match made_of(it.draw(), &mut stage.0, adapter) {
-            Some((answer, next)) => {
-                put_due(&mut stage.1, next);
-                answer
-            }
-            None => match made_of(it.next(), &mut stage.0, adapter) {
-                Some((answer, next)) => {
-                    put_due(&mut stage.1, next);
-                    answer
-                }
-                None => unreachable!(),
-            },
-        },
     }
 }

@@ -1,35 +1,31 @@
 // The adapter that yields each two adjacent items.
-ghost use Rattle.std.specs.Prelude.{◌≡◌, ⊤, Option, Result, None};
+ghost use Rattle.std.specs.Prelude.{◌≡◌, ⊤, Option, Result, Some, None};
 ghost use Rattle.fallible_iterator.specs.Contract.{parts_as};
 ghost use Rattle.fallible_iterator.specs.Laws.Contract.{lawful_parts};
-ghost use Rattle.fallible_itertools_adapters.specs.Laws.TupleWindows.{is_stage_windows, lawful_tuple_windows};
-ghost use Rattle.fallible_itertools_adapters.specs.Plan.{none_held, passes, plan_item, plan_stop};
-ghost use Rattle.fallible_itertools_adapters.specs.Staging.{nothing_comes};
-ghost use Rattle.fallible_itertools_adapters.specs.TupleWindows.{item_cloned, tuple_windows_contract, tuple_windows_made, tuple_windows_parts, windows_plan};
+ghost use Rattle.fallible_iterator.specs.Passing.{passing_step};
+ghost use Rattle.fallible_itertools_adapters.specs.Outcomes.{as_answered_item};
+ghost use Rattle.fallible_itertools_adapters.specs.TupleWindows.{tuple_windows_contract, tuple_windows_made, tuple_windows_parts, window_at, windows_asks};
+ghost use Rattle.fallible_itertools_adapters.specs.Laws.TupleWindows.{lawful_tuple_windows};
 
-use crate::staging::{AnswerAndDue, Made, Stage, Stop, drive_stage, next_past_one, one, stopped};
+use fallible_iterator::extending::{Outcome, Pass, drive_passing};
 use fallible_iterator::{FallibleIterator, Turn};
 use std::alloc::AllocError;
-use std::convert::Infallible;
 
 /// Each two adjacent items, as pairs. The last item is buffered, and the pair has a clone of it.
 #[derive(Clone, Debug, Drop)]
 pub struct TupleWindows<I: FallibleIterator> {
     pub(crate) it: I,
-    // the last item; nothing is due
-    pub(crate) stage: ((Option<I::Item>, ()), Option<Infallible>),
+    // the last item
+    pub(crate) held: Option<I::Item>,
 }
 
 impl<I: FallibleIterator> TupleWindows<I> {
     /// Creates it. It draws nothing.
     #[inline(always)]
     pub fn new(it: I) -> TupleWindows<I>
-        ensures { tuple_windows_parts result ≡ (it, ((None, tt), None)) }
+        ensures { tuple_windows_parts result ≡ (it, None) }
     {
-        TupleWindows {
-            it,
-            stage: ((None, ()), None),
-        }
+        TupleWindows { it, held: None }
     }
 }
 
@@ -48,12 +44,19 @@ where
 
     /// Draws once if an item is buffered, and otherwise until a second item, a failure or an `Ok(None)` comes.
     fn next(&mut self) -> Result<Option<(I::Item, I::Item)>, I::Error> {
-        next_past_one(&mut self.it, &mut self.stage, &WindowStage)
+        match self.held.take() {
+            Some(before) => pair_with_next(&mut self.it, &mut self.held, before),
+            None => match self.it.draw() {
+                Ok(Some(first)) => pair_with_next(&mut self.it, &mut self.held, first),
+                Ok(None) => Ok(None),
+                Err(e) => Err(e),
+            },
+        }
     }
 
     fn size_hint(&self) -> (usize, Option<usize>) {
         let (low, high) = self.it.size_hint();
-        if self.stage.0.0.is_some() {
+        if self.held.is_some() {
             (low, high)
         } else {
             (
@@ -68,70 +71,88 @@ where
         state: &mut C,
         turn: &K,
     ) -> Result<Option<R>, I::Error> {
-        drive_stage(&mut self.it, &mut self.stage, &WindowStage, state, turn)
+        drive_passing(&mut self.it, &mut self.held, &WindowPass, state, turn)
     }
 
     ghost lawful = { lawful_parts tuple_windows_made
         (lawful_tuple_windows I.Item.is_clone I.Item.is_infallible I.Error.from_gives I.lawful) };
 }
 
-// An item is held, and the one that was held is yielded beside a clone of it.
+// An item after the one before it.
 #[derive(Drop)]
-struct WindowStage;
+struct WindowPass;
 
-impl<X: Clone + Drop, E: From<AllocError>> Stage<(Option<X>, ()), X, E> for WindowStage {
+impl<X: Clone + Drop, E: From<AllocError>> Pass<Option<X>, X, E> for WindowPass {
     type Kept = (X, X);
 
-    type Due = Infallible;
+    type Answer = Outcome<(X, X), E>;
 
-    ghost comes = { λ _ due. nothing_comes due };
+    ghost can_pass = { λ _ p x. ⊤ };
 
-    ghost can_meet = { λ _ p x. ⊤ };
+    ghost call = { λ _ p x o q. windows_asks X.is_clone X.is_infallible E.from_gives p x o q };
 
-    ghost items = { λ _ p x made q. plan_item (item_cloned X.is_clone X.is_infallible E.from_gives)
-        windows_plan passes p x made q };
-
-    ghost stops = { λ _ p stop made q. plan_stop
-        (item_cloned X.is_clone X.is_infallible E.from_gives) windows_plan passes p stop made q };
-
-    ghost most = { λ _. 1 };
-
-    ghost held = { λ _ p. none_held p.0 };
+    ghost outcome = { λ _ _ o. o };
 
     #[inline(always)]
-    fn on_item(&self, p: &mut (Option<X>, ()), item: X) -> Made<(X, X), Infallible, E>
-        ensures { plan_item (item_cloned X.is_clone X.is_infallible E.from_gives) windows_plan passes
-            p.old item result p.new }
-    {
-        match p.0.take() {
-            Some(before) => {
-                let copied: Result<X, AllocError> = item.clone();
-                p.0 = Some(item);
-                match copied {
-                    Ok(copy) => one(Ok(Some((before, copy)))),
-                    Err(refused) => one(Err(E::from(refused))),
-                }
-            }
+    fn pass(&self, held: &mut Option<X>, item: X) -> Outcome<(X, X), E> {
+        match held.take() {
+            Some(before) => pair(held, before, item),
             None => {
-                p.0 = Some(item);
-                None
+                *held = Some(item);
+                Outcome::LeftOut
             }
         }
     }
+}
 
-    #[inline(always)]
-    fn on_stop(&self, _p: &mut (Option<X>, ()), stop: Stop<E>) -> Made<(X, X), Infallible, E>
-        ensures { plan_stop (item_cloned X.is_clone X.is_infallible E.from_gives) windows_plan passes
-            _p.old stop result _p.new }
-    {
-        one(stopped(stop))
+// One draw after that item.
+fn pair_with_next<I: FallibleIterator>(
+    it: &mut I,
+    held: &mut Option<I::Item>,
+    before: I::Item,
+) -> Result<Option<(I::Item, I::Item)>, I::Error>
+where
+    I::Item: Clone + Drop,
+    I::Error: From<AllocError>,
+    requires { I.contract.can_next it.old }
+    ensures { passing_step I.contract.steps
+        (windows_asks I.Item.is_clone I.Item.is_infallible I.Error.from_gives) as_answered_item
+        (it.old, Some before) result (it.new, held.new) }
+{
+    match it.next() {
+        Ok(Some(x)) => match pair(held, before, x) {
+            Outcome::Kept(both) => Ok(Some(both)),
+            Outcome::LeftOut => unreachable!(),
+            Outcome::Failure(e) => Err(e),
+            Outcome::End => unreachable!(),
+        },
+        Ok(None) => {
+            *held = Some(before);
+            Ok(None)
+        }
+        Err(e) => {
+            *held = Some(before);
+            Err(e)
+        }
     }
+}
 
-    #[inline(always)]
-    fn answer_due(&self, due: Infallible) -> AnswerAndDue<(X, X), Infallible, E> {
-        match due {}
+// Both items, the later one as a clone. The later one is buffered then, also if its clone fails.
+fn pair<X: Clone + Drop, E: From<AllocError>>(
+    holds: &mut Option<X>,
+    y: X,
+    x: X,
+) -> Outcome<(X, X), E>
+    ensures { window_at X.is_clone X.is_infallible E.from_gives y x result holds.new }
+{
+    match x.clone() {
+        Ok(copy) => {
+            *holds = Some(x);
+            Outcome::Kept((y, copy))
+        }
+        Err(refused) => {
+            *holds = Some(x);
+            Outcome::Failure(E::from(refused))
+        }
     }
-
-    ghost is_stage = { λ _. is_stage_windows
-        (item_cloned X.is_clone X.is_infallible E.from_gives) };
 }

@@ -5,10 +5,9 @@ use Rattle.fallible_iterator.specs.Traces.{Answered}
 use Rattle.fallible_iterator.specs.Closures.{IsCallable}
 use Rattle.fallible_iterator.specs.Passing.{IfItem}
 use Rattle.fallible_iterator.specs.Laws.Closures.{is_callable_after, reaches_by_call_first, reaches_reflexive}
-use Rattle.fallible_itertools_adapters.specs.Laws.Plan.{Always, always_of_follows}
 use Rattle.fallible_itertools_adapters.specs.Laws.Staging.{kept_where_reached}
 use Rattle.fallible_itertools_adapters.specs.Plan.{CanFollow, Follows, Making, Plan, calls, makes, plan_can, plan_item, plan_meets, plan_takes}
-use Rattle.fallible_itertools_adapters.specs.Staging.{Made, PassesOneOver}
+use Rattle.fallible_itertools_adapters.specs.Staging.{Made}
 
 pub follows_at : {H F Q R X B L E : Type 0} (call : F → Q → R → F → Type 0) (plan : H → X → Plan Q R (Making H B L E)) (stops : H → Option E → Making H B L E) (p : H × F) (x : X) (made : Made B L E) (q : H × F) (h : H) → p.0 ≡ h → Follows call (plan h x) p.1 made q.0 q.1 → plan_item call plan stops p x made q
 follows_at call plan stops p x made q h at w = subst (λ (k : _). Follows call (plan k x) p.1 made q.0 q.1) (sym at) w
@@ -40,11 +39,3 @@ module _ {H F Q R X B L E : Type 0} (call : F → Q → R → F → Type 0) (tak
 
     pub plan_can_where_callable : (p : H × F) → IsCallable call takes asked p.1 → plan_can call plan stops takes P p
     plan_can_where_callable p c = record { at = λ q a reached may. takes_where_callable q a may (kept_where_reached (λ (k : H × F). IsCallable call takes asked k.1) callable_after_met reached c) }
-
--- a plan that makes something of the item after one of which it makes nothing
-pub passes_one_over_plan : {H F Q R X B L E : Type 0} (call : F → Q → R → F → Type 0) (plan : H → X → Plan Q R (Making H B L E)) (stops : H → Option E → Making H B L E) → ((h : H) (x y : X) → Always (λ t. t.0 ≡ None → Always (λ k. k.0 ≡ None → ⊥) (plan t.1 y)) (plan h x)) → ((h : H) (stop : Option E) → (stops h stop).0 ≡ None → ⊥) → PassesOneOver (plan_meets call plan stops)
-passes_one_over_plan call plan stops next some p (Ok None) h b q w v = some p.0 None (sym w.0.0)
-passes_one_over_plan call plan stops next some p (Err e) h b q w v = some p.0 (Some e) (sym w.0.0)
-passes_one_over_plan call plan stops next some p (Ok (Some x)) h (Ok None) q w v = some h.0 None (sym v.0.0)
-passes_one_over_plan call plan stops next some p (Ok (Some x)) h (Err e) q w v = some h.0 (Some e) (sym v.0.0)
-passes_one_over_plan call plan stops next some p (Ok (Some x)) h (Ok (Some y)) q w v = let t = always_of_follows call _ (plan p.0 x) p.1 None h.0 h.1 w (next p.0 x y) in let k = always_of_follows call _ (plan h.0 y) h.1 None q.0 q.1 v (subst (λ (g : _). Always (λ k. k.0 ≡ None → ⊥) (plan g y)) (sym t.1.1) (t.2 (sym t.1.0))) in k.2 (sym k.1.0)

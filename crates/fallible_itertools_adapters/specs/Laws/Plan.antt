@@ -2,14 +2,13 @@
 use Rattle.std.specs.Prelude.{◌≡◌, ℕ, ◌+◌, ◌*◌, ◌≤◌, ⊤, Option, Some, None, Ok, Err}
 use Rattle.std.proofs.Common.{arith, refl}
 use Rattle.fallible_iterator.specs.Traces.{Answered}
-use Rattle.fallible_iterator.specs.Contract.{Contract, Lawful, OnAnswer}
+use Rattle.fallible_iterator.specs.Contract.{Contract, Lawful}
 use Rattle.fallible_iterator.specs.Laws.Closures.{is_callable_after}
 use Rattle.fallible_iterator.specs.Passing.{IfItem}
-use Rattle.fallible_itertools_adapters.specs.Staging.{EndsInStop, IsStage, Made, due_total, items_of, made_total, nothing_comes, stays_of, stop_comes}
+use Rattle.fallible_itertools_adapters.specs.Staging.{EndsInStop, IsStage, Made, due_total, items_of, made_total, stays_of, stop_comes}
 use Rattle.fallible_itertools_adapters.specs.Laws.Staging.{lawful_stage}
 use Rattle.fallible_itertools_adapters.specs.BeforeStop.{before_stop, held_one}
-use Rattle.fallible_itertools_adapters.specs.Plan.{Follows, HintPlan, Makes, Making, Plan, bounded, calls, closure_contract, makes, none_held, passes, plan_can, plan_contract, plan_hint, plan_meets, plan_takes, within_source_contract}
-use Rattle.std.specs.declared.convert.Infallible.{Infallible}
+use Rattle.fallible_itertools_adapters.specs.Plan.{Follows, HintPlan, Makes, Making, Plan, bounded, calls, closure_contract, makes, none_held, passes, plan_can, plan_contract, plan_hint, plan_meets, plan_takes}
 
 -- P holds of what comes of a plan, whatever the call returns
 abbrev pub Always : {Q R T : Type 0} → (T → Type 0) → Plan Q R T → Type 0
@@ -71,31 +70,3 @@ module _ {S H F Q R X B L E : Type 0} {m : Contract S X E} (l : Lawful m) (comes
 
   pub lawful_closure : (takes : F → Q → Type 0) → Lawful (closure_contract m comes call takes plan stops most held hint)
   lawful_closure takes = lawful_stage l comes (plan_meets call plan stops) (plan_can call plan stops takes) most (λ p. held p.0) (plan_hint m hint) is (λ P K p q weak reached c. is_callable_after {pre = λ r a. IfItem (plan_takes takes plan r) a} weak reached c)
-
--- ---- where the bounds are the source's
-
-module _ {S H F Q R X B E : Type 0} {m : Contract S X E} (l : Lawful m) (call : F → Q → R → F → Type 0) (plan : H → X → Plan Q R (Making H B Infallible E)) (stops : H → Option E → Making H B Infallible E) (hint : H → Option Infallible → HintPlan) (is : IsStage nothing_comes (plan_meets call plan stops) 1 (λ (p : H × F). none_held p.0)) where
-  abbrev State : Type 0
-  State = S × ((H × F) × Option Infallible)
-
-  abbrev Counted : Contract State B E
-  Counted = plan_contract m nothing_comes call plan stops 1 none_held hint
-
-  none_due : (count : Answered B E → ℕ) (due : Option Infallible) → due_total nothing_comes count due ≡ 0
-  none_due count None = refl
-  none_due count (Some never) = elim never [ ]
-
-  counted_where_bound : (p : State) (n : ℕ) → m.bound p.0 n → Counted.bound p n
-  counted_where_bound p n b = (n, b, omega (arith, none_due items_of p.1.1))
-
-  on_answer_within : (p : State) (r : Answered B E) (q : State) → OnAnswer Counted p r q → OnAnswer (within_source_contract m call plan stops hint) p r q
-  on_answer_within p (Ok (Some y)) q a = (a.0, (λ n b. let k = a.1 n (counted_where_bound p n b) in (k.1.0, k.1.1, omega (arith, k.1.2, k.2))), (λ f. let k = a.2 f in (k.0, omega (arith, k.1, none_due stays_of p.1.1))))
-  on_answer_within p (Ok None) q a = ((λ n b. let k = a.0 n (counted_where_bound p n b) in (k.1.0, k.1.1, omega (arith, k.1.2, k.2))), (λ f. let k = a.1 f in (k.0, omega (arith, k.1, none_due stays_of p.1.1))))
-  on_answer_within p (Err e) q a = (a.0, (λ n b. let k = a.1 n (counted_where_bound p n b) in (k.1.0, k.1.1, omega (arith, k.1.2, k.2))), (λ f. let k = a.2 f in (k.0, omega (arith, k.1, none_due stays_of p.1.1))))
-
-  pub lawful_within_source : Lawful (within_source_contract m call plan stops hint)
-  lawful_within_source = let whole = lawful_plan l nothing_comes call plan stops 1 none_held hint is in record {
-    kept_by_draw = λ p r q c step. let k = whole.kept_by_draw p r q c step in record { can_next = k.can_next; is_finite = k.is_finite; answer = on_answer_within p r q k.answer; may_give = k.may_give; may_fail = k.may_fail; lenders = k.lenders };
-    bounded = λ p. l.bounded p.0;
-    traced = whole.traced;
-  }

@@ -2,12 +2,12 @@
 //!
 //!     pg_rows ADDRESS USER DATABASE QUERY
 //!
-//! If the server asks for the password in clear text, it sends that of the variable `PGPASSWORD`. At the first fault it says why, and ends with status 1 if the server refuses the session or a statement, 2 if a read fails, there is no connection, or the words are others, 4 if a write fails, 5 at damage, 6 if the bytes are cut, and 7 at COPY, the extended protocol, and another proof of identity than a password in clear text.
+//! If the server asks for the password in clear text, it sends that of the variable `PGPASSWORD`. At the first fault it says why, and ends with status 1 if the server refuses the session or a statement, 2 if a read fails, there is no connection, or the words are others, 4 if a write fails, 5 at damage, 6 if the bytes are cut, and 7 at COPY and another proof of identity than a password in clear text.
 //!
 //! Messages, rows, and what is sent are the erased code of the proved `fallible_pg`. The socket and the session's start are written by hand.
 use fallible_iterator::FallibleIterator;
 use fallible_pg::{
-    Damage, Message, Messages, PgFault, PgInput, Request, Rows, Unsent, password_message,
+    Damage, Format, Messages, PgFault, PgInput, Request, Rows, Unsent, password_message,
     print_rows, query_message, request_of, startup_message, terminate_message,
 };
 use program_io::ending::ended;
@@ -89,20 +89,20 @@ pub fn start(
 ) -> Result<(), Stopped> {
     send(writer, startup_message(session.user, session.database))?;
     let mut place = 0;
-    Messages::new(reader)
-        .map_err(stopped_by)
-        .take_while(|message: &Message| Ok(message.tag() != b'Z'))
-        .for_each(|message| {
-            let at = place;
-            place += message.bytes().len() as u64;
-            match (message.tag(), request_of(&message)) {
-                (_, Some(request)) => answer(writer, request, session),
-                // The key of the session, a parameter, a notice.
-                (b'K' | b'S' | b'N', _) => Ok(()),
-                (b'E', _) => Err(stopped_by(PgFault::Server(message))),
-                (tag, _) => Err(stopped_by(PgFault::Damaged(at, Damage::Tag(tag)))),
-            }
-        })
+    let mut messages = Messages::new(reader);
+    while let Some(message) = messages.next().map_err(stopped_by)? {
+        let at = place;
+        place += message.bytes().len() as u64;
+        match (message.tag(), request_of(&message)) {
+            (b'Z', _) => return Ok(()),
+            (_, Some(request)) => answer(writer, request, session)?,
+            // The key of the session, a parameter, a notice.
+            (b'K' | b'S' | b'N', _) => {}
+            (b'E', _) => return Err(stopped_by(PgFault::Server(message))),
+            (tag, _) => return Err(stopped_by(PgFault::Damaged(at, Damage::Tag(tag)))),
+        }
+    }
+    Err(stopped_by(PgFault::Damaged(place, Damage::Cut)))
 }
 
 /// Prints the rows of the session's query, tells `errors` of its notices, and ends the session.
@@ -119,7 +119,11 @@ pub fn run(
     start(lent, writer, session)?;
     send(writer, query_message(session.query))?;
     let mut rows = Rows::new(Messages::new(reader));
-    let printed = print_rows(&mut rows, &mut Vec::new(), output, errors);
+    let format = Format {
+        null: b"",
+        csv: false,
+    };
+    let printed = print_rows(&mut rows, format, &mut Vec::new(), output, errors);
     // The server ends the session too where the connection is closed.
     let _ = send(writer, terminate_message());
     printed.map_err(Stopped::Run)

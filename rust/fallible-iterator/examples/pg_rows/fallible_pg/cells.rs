@@ -35,7 +35,7 @@ impl Cells<'_> {
 }
 
 // The bytes after so many.
-fn after(bytes: &[u8], count: usize) -> &[u8] {
+pub(crate) fn after(bytes: &[u8], count: usize) -> &[u8] {
     &bytes[count..]
 }
 

@@ -6,7 +6,7 @@ use crate::fallible_pg::message::Message;
 /// What is wrong with what a server sent.
 #[derive(Clone, Copy, Debug, PartialEq, Eq)]
 pub enum Damage {
-    /// The bytes end where a message was to come, or within one.
+    /// The bytes end within a message, or, of rows, before the server was ready.
     Cut,
     /// A message states this length, which none has.
     Length(u32),
@@ -14,6 +14,8 @@ pub enum Damage {
     Tag(u8),
     /// A row's cells don't fill its message.
     Row,
+    /// The columns of a description don't fill its message.
+    Columns,
 }
 
 /// Why no row came.

@@ -7,7 +7,7 @@ use crate::fallible_pg::text::HoldText;
 use fallible_iterator::FallibleIterator;
 use crate::program_io::writing::WriteText;
 
-/// A draw of rows reads the bytes of the messages that it skips and of the one that its answer is made of, one at a time, and no byte after these.
+/// A draw of rows reads the bytes of the messages that it skips and of the one that its answer is made of, one at a time, and no byte after these. A row tells how many statements ended before it.
 pub fn law_draw<R: ReadMessage>()
 {}
 

@@ -4,17 +4,16 @@ use fallible_iterator::memory::AllocError;
 use crate::fallible_pg::fault::PgFault;
 use crate::fallible_pg::message::Message;
 use crate::fallible_pg::reading::{Broken, ReadMessage};
-use crate::program_io::reading::ReadFailed;
 use fallible_iterator::FallibleIterator;
 
 /// The messages of a reader, as a server sends them: each is its tag, its length and its body.
 ///
-/// A draw reads the bytes of one message, one at a time or by what stands in the reader's buffer, and none of the next. It takes room for what has come alone, whatever length is stated. Nothing ends them but a fault, since a server ends nothing without a message: where the bytes end it fails with `Damaged` and `Cut`, at a length that no message has with `Damaged` and `Length`, and with `Read` and `Memory`. After 2 ^ 63 bytes it fails with `Read`. After a fault each call returns `Ok(None)` and reads no more.
+/// A draw reads the bytes of one message, one at a time or by what stands in the reader's buffer, and none of the next. It takes room for what has come alone, whatever length is stated. They end where the bytes end between two messages. Where the bytes end within one it fails with `Damaged` and `Cut`, at a length that no message has with `Damaged` and `Length`, and with `Read` and `Memory`. After 2 ^ 63 bytes it fails with `Read`. After the end and after a fault each call returns `Ok(None)` and reads no more.
 ///
 /// It states no bound, so it is drained through `take`.
 pub struct Messages<R> {
     reader: R,
-    // how many bytes were read; none once no message can be found
+    // how many bytes were read; none after the end and after a fault
     place: Option<u64>,
 }
 
@@ -30,18 +29,9 @@ impl<R: ReadMessage> Messages<R> {
         }
     }
 
-    // How many bytes were read; 0 once no message can be found.
+    // How many bytes were read; 0 after the end and after a fault.
     pub(crate) fn place(&self) -> u64 {
         self.place.unwrap_or(0)
-    }
-
-    // Whether the reader is at its end. It reads a byte, which is lost.
-    pub(crate) fn is_at_end(&mut self) -> Result<bool, ReadFailed> {
-        match self.reader.read_byte() {
-            Ok(None) => Ok(true),
-            Ok(Some(_)) => Ok(false),
-            Err(failed) => Err(failed),
-        }
     }
 }
 
@@ -58,10 +48,11 @@ impl<R: ReadMessage> FallibleIterator for Messages<R> {
             return Err(PgFault::Read);
         }
         match self.reader.read_message() {
-            Ok(message) => {
+            Ok(Some(message)) => {
                 self.place = Some(place + message.bytes().len() as u64);
                 Ok(Some(message))
             }
+            Ok(None) => Ok(None),
             Err(Broken::Damaged(damage)) => Err(PgFault::Damaged(place, damage)),
             Err(Broken::Read) => Err(PgFault::Read),
             Err(Broken::Memory) => Err(PgFault::Memory),

@@ -2,7 +2,9 @@ use crate::Fail;
 use fallible_iterator::memory::AllocError;
 
 use crate::fallible_pg::fault::Damage;
+use crate::fallible_pg::kind::is_start;
 use crate::fallible_pg::message::Message;
+use crate::fallible_pg::strings::before_zero;
 use crate::program_io::fault::InputFault;
 use crate::program_io::writing::WriteText;
 use std::io;
@@ -14,16 +16,6 @@ pub enum PgInput {
     Server(Message),
     /// What it sent is damaged: the place of the message, in bytes from 0, and how.
     Damaged(u64, Damage),
-}
-
-// The bytes before the first 0.
-fn before_zero(bytes: &[u8]) -> &[u8] {
-    for place in 0..bytes.len() {
-        if bytes[place] == 0 {
-            return &bytes[..place];
-        }
-    }
-    bytes
 }
 
 // The field of a refusal that a letter names.
@@ -44,16 +36,6 @@ fn is_copy(tag: u8) -> bool {
     tag == b'G' || tag == b'H' || tag == b'W' || tag == b'c' || tag == b'd'
 }
 
-// Whether the tag is one of the extended protocol.
-fn is_extended(tag: u8) -> bool {
-    tag == b'1' || tag == b'2' || tag == b'3' || tag == b'n' || tag == b's' || tag == b't'
-}
-
-// Whether the tag is one of a session's start: what the server asks for, the key by which a query is cancelled, or the version that it speaks.
-fn is_start(tag: u8) -> bool {
-    tag == b'R' || tag == b'K' || tag == b'v'
-}
-
 // Whether the tag is that of what a function's call returns.
 fn is_call(tag: u8) -> bool {
     tag == b'V'
@@ -61,7 +43,7 @@ fn is_call(tag: u8) -> bool {
 
 // Whether a message with this tag is known, and isn't read.
 fn is_known(tag: u8) -> bool {
-    is_copy(tag) || is_extended(tag) || is_start(tag) || is_call(tag)
+    is_copy(tag) || is_start(tag) || is_call(tag)
 }
 
 // The status of a damage.
@@ -115,9 +97,6 @@ fn write_tag<W: WriteText>(tag: u8, errors: &mut W) -> io::Result<()> {
     if is_copy(tag) {
         return errors.write_text("COPY isn't read");
     }
-    if is_extended(tag) {
-        return errors.write_text("the extended protocol isn't read");
-    }
     if is_start(tag) {
         return errors.write_text("a session's start isn't read");
     }
@@ -136,6 +115,7 @@ fn write_damage<W: WriteText>(damage: Damage, errors: &mut W) -> io::Result<()> 
         }
         Damage::Tag(tag) => write_tag(tag, errors),
         Damage::Row => errors.write_text("the cells of a row don't fill it"),
+        Damage::Columns => errors.write_text("the columns of a description don't fill it"),
     }
 }
 

@@ -36,19 +36,37 @@ fn is_length(n: u32) -> bool {
 
 /// Something that yields messages, as every reader does.
 pub trait ReadMessage: ReadByte {
-    /// One message. No byte after it is read, and room is taken for what has come alone, whatever length is stated. It fails if what came is damaged, if a read fails, and if an allocation does.
-    fn read_message(&mut self) -> Result<Message, Broken>;
+    /// One message, or `None` at the end. No byte after it is read, and room is taken for what has come alone, whatever length is stated. It fails if what came is damaged, if a read fails, and if an allocation does.
+    fn read_message(&mut self) -> Result<Option<Message>, Broken>;
 }
 
 impl<R: ReadByte> ReadMessage for R {
-    fn read_message(&mut self) -> Result<Message, Broken> {
+    fn read_message(&mut self) -> Result<Option<Message>, Broken> {
         read_message(self)
     }
 }
 
-// Reads one message, and no byte after it.
-fn read_message<R: ReadByte>(reader: &mut R) -> Result<Message, Broken> {
+// Reads the tag of a message, if there is one.
+fn read_tag<R: ReadByte>(reader: &mut R) -> Result<Option<Vec<u8>>, Broken> {
     let mut bytes = Vec::new();
+    match reader.read_byte() {
+        Ok(Some(tag)) => match Ok::<(), AllocError>(bytes.push(tag)) {
+            Ok(()) => Ok(Some(bytes)),
+            // No memory: a push fails only if an allocation does.
+            Err(_) => Err(Broken::Memory),
+        },
+        Ok(None) => Ok(None),
+        Err(_) => Err(Broken::Read),
+    }
+}
+
+// Reads one message, if there is one, and no byte after it.
+fn read_message<R: ReadByte>(reader: &mut R) -> Result<Option<Message>, Broken> {
+    let mut bytes = match read_tag(reader) {
+        Ok(Some(bytes)) => bytes,
+        Ok(None) => return Ok(None),
+        Err(why) => return Err(why),
+    };
     match read_up_to(reader, &mut bytes, 5) {
         Ok(()) => {}
         Err(why) => return Err(broken_by(why)),
@@ -58,7 +76,7 @@ fn read_message<R: ReadByte>(reader: &mut R) -> Result<Message, Broken> {
         return Err(Broken::Damaged(Damage::Length(stated)));
     }
     match read_up_to(reader, &mut bytes, stated as usize + 1) {
-        Ok(()) => Ok(Message::new(bytes)),
+        Ok(()) => Ok(Some(Message::new(bytes))),
         Err(why) => Err(broken_by(why)),
     }
 }

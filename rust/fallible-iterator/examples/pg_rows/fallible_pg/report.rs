@@ -5,7 +5,7 @@ use crate::fallible_pg::fault::{Damage, PgFault};
 use crate::fallible_pg::printing::{PgInput, write_notice};
 use crate::fallible_pg::reading::ReadMessage;
 use crate::fallible_pg::rows::{Reply, Rows};
-use crate::fallible_pg::text::HoldText;
+use crate::fallible_pg::text::{Format, HoldText};
 use crate::program_io::fault::RunFault;
 use crate::program_io::writing::WriteText;
 use fallible_iterator::FallibleIterator;
@@ -23,6 +23,7 @@ fn run_fault(fault: PgFault) -> RunFault<PgInput> {
 // Prints a row, by one write, or tells of a notice.
 fn put_reply<T: HoldText, W: WriteText, E: WriteText>(
     reply: &Reply,
+    format: Format<'_>,
     text: &mut T,
     output: &mut W,
     errors: &mut E,
@@ -30,7 +31,7 @@ fn put_reply<T: HoldText, W: WriteText, E: WriteText>(
     match reply {
         Reply::Row(row) => {
             // No memory: a buffer refuses a row only for want of room.
-            if !text.hold_row(row) {
+            if !text.hold_row(row, format) {
                 return Err(RunFault::Memory);
             }
             match output.write_bytes(text.held()) {
@@ -45,20 +46,21 @@ fn put_reply<T: HoldText, W: WriteText, E: WriteText>(
     }
 }
 
-/// Prints the rows up to the first fault, and tells `errors` of the notices, each as it comes. A row is written as `write_row` does, by one write. `text` is the buffer that each is put into first, in the place of what it holds.
+/// Prints the rows in a form up to the first fault, and tells `errors` of the notices, each as it comes. A row is written as `write_row` does, by one write. `text` is the buffer that each is put into first, in the place of what it holds.
 ///
 /// It fails with `Input` at the server's refusal and at damage; with `Read` where a read fails, or after 2 ^ 63 bytes; with `Memory` where there is no room for a message, or in `text` for that of a row; with `Write` where a writer fails. Only at `Write` may something have been written that is not whole rows.
 ///
 /// Requires that no row was drawn.
 pub fn print_rows<R: ReadMessage, T: HoldText, W: WriteText, E: WriteText>(
     rows: &mut Rows<R>,
+    format: Format<'_>,
     text: &mut T,
     output: &mut W,
     errors: &mut E,
 ) -> Result<(), RunFault<PgInput>> {
     for _ in 0..u64::MAX {
         match rows.next() {
-            Ok(Some(reply)) => match put_reply(&reply, text, output, errors) {
+            Ok(Some(reply)) => match put_reply(&reply, format, text, output, errors) {
                 Ok(()) => {}
                 Err(fault) => return Err(fault),
             },

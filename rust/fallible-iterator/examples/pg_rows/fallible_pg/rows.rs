@@ -1,18 +1,21 @@
 use crate::Fail;
 use fallible_iterator::memory::AllocError;
 
-use crate::fallible_pg::cells::{Cells, is_row};
+use crate::fallible_pg::cells::Cells;
+use crate::fallible_pg::columns::Columns;
 use crate::fallible_pg::fault::{Damage, PgFault};
+use crate::fallible_pg::kind::{Kind, kind_of};
 use crate::fallible_pg::message::Message;
 use crate::fallible_pg::messages::Messages;
+use crate::fallible_pg::progress::Progress;
 use crate::fallible_pg::reading::ReadMessage;
-use crate::program_io::reading::ReadFailed;
 use fallible_iterator::FallibleIterator;
 
 /// A row, whose cells are undamaged.
 #[derive(Debug)]
 pub struct Row {
     message: Message,
+    statement: u64,
 }
 
 impl Row {
@@ -21,7 +24,12 @@ impl Row {
         &self.message
     }
 
-    /// Its cells.
+    /// Which statement it is of: how many ended before it, among those of which rows were drawn. A refused one ends too. At most 2 ^ 64 - 1 are counted.
+    pub fn statement(&self) -> u64 {
+        self.statement
+    }
+
+    /// Its cells: `None` at a NULL, which an empty cell isn't.
     pub fn cells(&self) -> Cells<'_> {
         Cells::new(self.message.bytes())
     }
@@ -46,77 +54,53 @@ impl Reply {
     }
 }
 
-/// The rows of the results of a query, over the messages that come after it, and the notices of the server between them.
+/// The rows that messages of a server bring, and its notices between them: those of one query (`new`), or of a recording (`recorded`).
 ///
-/// A draw passes the other messages: the description of rows, the end of a statement and such. It reads the bytes of these and of the one that decides, and none of the next. A refusal of the server is the failure `Server`, and the next draw goes on. Where the server is ready for the next query the rows end, and `into_messages` returns the messages after that. A row whose cells don't fill it, a message of a tag that isn't read, and each fault of the messages is a failure after which each call returns `Ok(None)` and reads no more.
+/// A draw passes the other messages: the description of rows, the end of a statement, those of a prepared statement and such. It reads the bytes of these and of the one that decides, and none of the next. A refusal of the server is the failure `Server`, and the next draw goes on. A row whose cells don't fill it, a message of a tag that isn't read, and each fault of the messages is a failure after which each call returns `Ok(None)` and reads no more. So is an end of the messages before the server is ready: `Damaged` and `Cut`.
 ///
 /// Over a reader that tells its bytes they are a function of these (`law_turns`). It states no bound, so it is drained through `take`.
 pub struct Rows<R> {
     messages: Messages<R>,
+    progress: Progress,
     ended: bool,
 }
 
-/// What a message is to one who reads rows.
-#[derive(Clone, Copy, Debug, PartialEq, Eq)]
-pub enum Kind {
-    /// A row.
-    Row,
-    /// A notice of the server.
-    Notice,
-    /// Passed over.
-    Skipped,
-    /// The server refuses a statement.
-    Refusal,
-    /// The server is ready for the next query.
-    Ready,
-    /// It is damaged, or isn't read.
-    Damaged(Damage),
-}
-
-// Whether messages with this tag are skipped: the description of rows, the end of a statement, an empty statement, a parameter, a notification.
-fn is_skipped(tag: u8) -> bool {
-    tag == b'T' || tag == b'C' || tag == b'I' || tag == b'S' || tag == b'A'
-}
-
-// What a message is to one who reads rows.
-fn kind_of(message: &Message) -> Kind {
-    let tag = message.tag();
-    if tag == b'D' {
-        if is_row(message.bytes()) {
-            Kind::Row
-        } else {
-            Kind::Damaged(Damage::Row)
-        }
-    } else if is_skipped(tag) {
-        Kind::Skipped
-    } else if tag == b'N' {
-        Kind::Notice
-    } else if tag == b'E' {
-        Kind::Refusal
-    } else if tag == b'Z' {
-        Kind::Ready
+// What is made of the end of the messages at a place: the end where the server was ready, and else damage.
+fn at_end(ready: bool, place: u64) -> Result<Option<Reply>, PgFault> {
+    if ready {
+        Ok(None)
     } else {
-        Kind::Damaged(Damage::Tag(tag))
+        Err(PgFault::Damaged(place, Damage::Cut))
     }
 }
 
 impl<R: ReadMessage> Rows<R> {
-    /// The rows that these messages bring. It reads nothing.
+    /// The rows of the results of one query, over the messages that come after it. They end where the server is ready for the next query, and `into_messages` returns the messages after that. It reads nothing.
     pub fn new(messages: Messages<R>) -> Rows<R> {
         Rows {
             messages,
+            progress: Progress::new(false),
             ended: false,
         }
     }
 
-    /// How many bytes of messages were read; 0 once no message can be found.
+    /// The rows of a recording, over all that a server sent in a session, or from some query on. The messages that start a session are skipped. Where the server is ready they go on, up to the end of the messages. It reads nothing.
+    pub fn recorded(messages: Messages<R>) -> Rows<R> {
+        Rows {
+            messages,
+            progress: Progress::new(true),
+            ended: false,
+        }
+    }
+
+    /// How many bytes of messages were read; 0 after the end of the messages and after a fault of theirs.
     pub fn place(&self) -> u64 {
         self.messages.place()
     }
 
-    /// Whether nothing comes after what was read: whether the reader is at its end. It reads a byte, which is lost.
-    pub fn is_at_end(&mut self) -> Result<bool, ReadFailed> {
-        self.messages.is_at_end()
+    /// The columns of the rows, by the description that came last among what was read; `None` where none came, or the server said after it that a statement has no rows.
+    pub fn columns(&self) -> Option<Columns<'_>> {
+        self.progress.columns()
     }
 
     /// The messages that come after what was read.
@@ -138,24 +122,27 @@ impl<R: ReadMessage> FallibleIterator for Rows<R> {
         for _ in 0..u64::MAX {
             let place = self.messages.place();
             match self.messages.next() {
-                Ok(Some(message)) => match kind_of(&message) {
+                Ok(Some(message)) => match kind_of(self.progress.is_recorded(), &message) {
                     Kind::Row => {
                         self.ended = false;
-                        return Ok(Some(Reply::Row(Row { message })));
+                        let statement = self.progress.statements();
+                        self.progress.pass_row();
+                        return Ok(Some(Reply::Row(Row { message, statement })));
                     }
                     Kind::Notice => {
                         self.ended = false;
                         return Ok(Some(Reply::Notice(message)));
                     }
-                    Kind::Skipped => {}
+                    Kind::Skipped => self.progress.pass(message),
                     Kind::Refusal => {
                         self.ended = false;
+                        self.progress.pass_refusal();
                         return Err(PgFault::Server(message));
                     }
                     Kind::Ready => return Ok(None),
                     Kind::Damaged(damage) => return Err(PgFault::Damaged(place, damage)),
                 },
-                Ok(None) => return Ok(None),
+                Ok(None) => return at_end(self.progress.is_ready(), place),
                 Err(fault) => return Err(fault),
             }
         }

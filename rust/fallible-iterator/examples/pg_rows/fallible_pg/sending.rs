@@ -17,7 +17,7 @@ pub enum Unsent {
 const MAX_BODY: usize = 0x3fff_fffb;
 
 // A tag, if there is one, the length and the body.
-fn message_of(tag: &[u8], body: &[u8]) -> Result<Vec<u8>, Unsent> {
+pub(crate) fn message_of(tag: &[u8], body: &[u8]) -> Result<Vec<u8>, Unsent> {
     if body.len() > MAX_BODY {
         return Err(Unsent::Long);
     }
@@ -92,4 +92,39 @@ pub fn request_of(message: &Message) -> Option<Request> {
     } else {
         None
     }
+}
+
+/// What a message says after the four bytes of what it asks for.
+pub fn request_data(message: &Message) -> &[u8] {
+    let bytes = message.bytes();
+    if bytes.len() < 9 { &[] } else { &bytes[9..] }
+}
+
+/// The two numbers by which a query of a session is cancelled.
+#[derive(Clone, Copy, Debug, PartialEq, Eq)]
+pub struct CancelKey {
+    process: u32,
+    secret: u32,
+}
+
+/// The numbers that a message tells by which a query is cancelled, if it tells them.
+pub fn cancel_key_of(message: &Message) -> Option<CancelKey> {
+    let bytes = message.bytes();
+    if message.tag() == b'K' && bytes.len() == 13 {
+        Some(CancelKey {
+            process: u32_at(bytes, 5),
+            secret: u32_at(bytes, 9),
+        })
+    } else {
+        None
+    }
+}
+
+/// What asks a server, over a connection of its own, to cancel the query of a session. It never fails with `Long`.
+pub fn cancel_message(key: CancelKey) -> Result<Vec<u8>, Unsent> {
+    let mut body = Vec::new();
+    body.extend_from_slice(&80_877_102u32.to_be_bytes());
+    body.extend_from_slice(&key.process.to_be_bytes());
+    body.extend_from_slice(&key.secret.to_be_bytes());
+    message_of(&[], body.as_slice())
 }

@@ -2,31 +2,74 @@ use crate::Fail;
 use fallible_iterator::memory::AllocError;
 
 use crate::fallible_pg::cells::Cells;
+use crate::fallible_pg::csv;
 use crate::fallible_pg::rows::Row;
 use crate::program_io::writing::WriteText;
 use fallible_iterator::FallibleIterator;
 use std::io;
 
-// The bytes of a cell: none at a NULL.
-fn bytes_of(cell: Option<&[u8]>) -> &[u8] {
-    match cell {
-        Some(bytes) => bytes,
-        None => &[],
+/// In which form rows are printed.
+#[derive(Clone, Copy, Debug, PartialEq, Eq)]
+pub struct Format<'a> {
+    /// What a NULL is printed as.
+    pub null: &'a [u8],
+    /// Whether cells are fields of CSV, with a comma between each two; else they stand as they are, with a bar between.
+    pub csv: bool,
+}
+
+impl<'a> Format<'a> {
+    // What a cell has: its bytes, and what a NULL is printed as.
+    fn shown(self, cell: Option<&'a [u8]>) -> &'a [u8] {
+        match cell {
+            Some(bytes) => bytes,
+            None => self.null,
+        }
+    }
+
+    // What stands between two cells.
+    fn separator(self) -> u8 {
+        if self.csv { b',' } else { b'|' }
     }
 }
 
-// Writes a bar and a cell.
-fn write_further_cell<W: WriteText>(cell: Option<&[u8]>, writer: &mut W) -> io::Result<()> {
-    writer.write_bytes(b"|")?;
-    writer.write_bytes(bytes_of(cell))
+// Writes what a cell has.
+fn write_shown<W: WriteText>(format: Format<'_>, field: &[u8], writer: &mut W) -> io::Result<()> {
+    if format.csv {
+        csv::write_field(field, writer)
+    } else {
+        writer.write_bytes(field)
+    }
 }
 
-// Writes the further cells, a bar before each, and a newline.
-fn write_further<W: WriteText>(cells: &mut Cells<'_>, writer: &mut W) -> io::Result<()> {
+// Writes a cell.
+fn write_cell<W: WriteText>(
+    format: Format<'_>,
+    cell: Option<&[u8]>,
+    writer: &mut W,
+) -> io::Result<()> {
+    write_shown(format, format.shown(cell), writer)
+}
+
+// Writes a separator and a cell.
+fn write_further_cell<W: WriteText>(
+    format: Format<'_>,
+    cell: Option<&[u8]>,
+    writer: &mut W,
+) -> io::Result<()> {
+    writer.write_bytes(&[format.separator()])?;
+    write_cell(format, cell, writer)
+}
+
+// Writes the further cells, a separator before each, and a newline.
+fn write_further<W: WriteText>(
+    format: Format<'_>,
+    cells: &mut Cells<'_>,
+    writer: &mut W,
+) -> io::Result<()> {
     let count = cells.left();
     for _ in 0..count {
         match cells.next() {
-            Ok(Some(cell)) => match write_further_cell(cell, writer) {
+            Ok(Some(cell)) => match write_further_cell(format, cell, writer) {
                 Ok(()) => {}
                 Err(error) => return Err(error),
             },
@@ -37,12 +80,12 @@ fn write_further<W: WriteText>(cells: &mut Cells<'_>, writer: &mut W) -> io::Res
     writer.write_bytes(b"\n")
 }
 
-/// Writes a row as `psql -A -t` does: its cells with a bar between each two, a NULL as nothing, and a newline. A row without cells is nothing.
-pub fn write_row<W: WriteText>(row: &Row, writer: &mut W) -> io::Result<()> {
+/// Writes a row as `psql -A -t` does, or as `psql --csv -t` does: its cells with a separator between each two, and a newline. A row without cells is nothing.
+pub fn write_row<W: WriteText>(row: &Row, format: Format<'_>, writer: &mut W) -> io::Result<()> {
     let mut cells = row.cells();
     match cells.next() {
-        Ok(Some(cell)) => match writer.write_bytes(bytes_of(cell)) {
-            Ok(()) => write_further(&mut cells, writer),
+        Ok(Some(cell)) => match write_cell(format, cell, writer) {
+            Ok(()) => write_further(format, &mut cells, writer),
             Err(error) => Err(error),
         },
         Ok(None) => Ok(()),
@@ -53,16 +96,16 @@ pub fn write_row<W: WriteText>(row: &Row, writer: &mut W) -> io::Result<()> {
 /// A buffer for the text of a row.
 pub trait HoldText {
     /// Puts the text of a row, as `write_row` writes it, in the place of what it holds. Whether there was room.
-    fn hold_row(&mut self, row: &Row) -> bool;
+    fn hold_row(&mut self, row: &Row, format: Format<'_>) -> bool;
 
     /// The text that it holds.
     fn held(&self) -> &[u8];
 }
 
 impl HoldText for Vec<u8> {
-    fn hold_row(&mut self, row: &Row) -> bool {
+    fn hold_row(&mut self, row: &Row, format: Format<'_>) -> bool {
         self.clear();
-        write_row(row, self).is_ok()
+        write_row(row, format, self).is_ok()
     }
 
     fn held(&self) -> &[u8] {

@@ -4,4 +4,4 @@ use Rattle.fallible_itertools_adapters.proofs.Lemmas.Tuples.{hints_as_sound_tupl
 use Rattle.fallible_itertools_adapters.proofs.laws.holding.law_hints_tuples.Goals as goal
 
 pub returns : goal.returns
-returns g c = hints_as_sound_tuples _ _ tuples_parts g.I.FallibleIterator.contract
+returns g c = hints_as_sound_tuples tuples_parts g.I.FallibleIterator.contract

@@ -1,0 +1,12 @@
+use crate::Fail;
+use fallible_iterator::memory::AllocError;
+
+// The bytes before the first 0.
+pub(crate) fn before_zero(bytes: &[u8]) -> &[u8] {
+    for place in 0..bytes.len() {
+        if bytes[place] == 0 {
+            return &bytes[..place];
+        }
+    }
+    bytes
+}
