@@ -6,8 +6,8 @@ from made.code import lines_of
 from made.tree import LIBRARY
 
 SIBLINGS = {
-    "terms of what passes": ["copied", "unique", "inspect_err", "or_else"],
-    "terms of stages": ["intersperse_with", "take_while_inclusive", "intersperse", "tuples", "tuple_windows"],
+    "terms of what passes": ["copied", "unique", "tuples", "inspect_err", "or_else"],
+    "terms of stages": ["intersperse_with", "take_while_inclusive", "intersperse"],
     "terms of what buffers": ["dedup", "dedup_by_key", "coalesce", "chunk_by"],
     "terms of consumers and searches": ["checked_sum", "fold_while", "try_find"],
 }

@@ -355,7 +355,7 @@ pub trait FallibleItertools: FallibleIterator + Sized {
     /// As it is proved, in [these words](crate::words):
     ///
     /// ```text
-    /// ensures parts { tuple_windows_parts result ≡ (self, ((None, tt), None)) }
+    /// ensures parts { tuple_windows_parts result ≡ (self, None) }
     /// ensures lists { (l : List (Result Self.Item Self.Error))
     ///     → list.Lists Self.contract.steps self l
     ///     → ((x y : Self.Item) → Self.Item.is_clone x y → y ≡ x)
@@ -397,7 +397,7 @@ pub trait FallibleItertools: FallibleIterator + Sized {
     /// As it is proved, in [these words](crate::words):
     ///
     /// ```text
-    /// ensures parts { tuples_parts result ≡ (self, ((None, tt), None)) }
+    /// ensures parts { tuples_parts result ≡ (self, None) }
     /// ensures lists { (l : List (Result Self.Item Self.Error))
     ///     → list.Lists Self.contract.steps self l
     ///     → list.Lists (seen_as tuples_parts (tuples_contract Self.contract)).steps result

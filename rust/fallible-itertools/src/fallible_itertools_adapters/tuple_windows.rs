@@ -1,10 +1,7 @@
 // The adapter that yields each two adjacent items.
 
 use crate::base::Turn;
-use crate::fallible_itertools_adapters::staging::{
-    AnswerAndDue, Made, Stage, Stop, drive_stage, next_past_one, one, stopped,
-};
-use core::convert::Infallible;
+use crate::base::{Outcome, Pass, drive_passing};
 use fallible_iterator::FallibleIterator;
 
 /// Each two adjacent items, as pairs. The last item is buffered, and the pair has a clone of it.
@@ -12,18 +9,15 @@ use fallible_iterator::FallibleIterator;
 #[must_use = "an iterator draws nothing until it is asked"]
 pub struct TupleWindows<I: FallibleIterator> {
     pub(crate) it: I,
-    // the last item; nothing is due
-    pub(crate) stage: ((Option<I::Item>, ()), Option<Infallible>),
+    // the last item
+    pub(crate) held: Option<I::Item>,
 }
 
 impl<I: FallibleIterator> TupleWindows<I> {
     /// Creates it. It draws nothing.
     #[inline(always)]
     pub(crate) fn new(it: I) -> TupleWindows<I> {
-        TupleWindows {
-            it,
-            stage: ((None, ()), None),
-        }
+        TupleWindows { it, held: None }
     }
 }
 
@@ -38,7 +32,7 @@ where
         state: &mut C,
         turn: &K,
     ) -> Result<Option<R>, I::Error> {
-        drive_stage(&mut self.it, &mut self.stage, &WindowStage, state, turn)
+        drive_passing(&mut self.it, &mut self.held, &WindowPass, state, turn)
     }
 }
 
@@ -52,12 +46,19 @@ where
 
     /// Draws once if an item is buffered, and otherwise until a second item, a failure or an `Ok(None)` comes.
     fn next(&mut self) -> Result<Option<(I::Item, I::Item)>, I::Error> {
-        next_past_one(&mut self.it, &mut self.stage, &WindowStage)
+        match self.held.take() {
+            Some(before) => pair_with_next(&mut self.it, &mut self.held, before),
+            None => match self.it.next() {
+                Ok(Some(first)) => pair_with_next(&mut self.it, &mut self.held, first),
+                Ok(None) => Ok(None),
+                Err(e) => Err(e),
+            },
+        }
     }
 
     fn size_hint(&self) -> (usize, Option<usize>) {
         let (low, high) = self.it.size_hint();
-        if self.stage.0.0.is_some() {
+        if self.held.is_some() {
             (low, high)
         } else {
             (
@@ -70,36 +71,56 @@ where
     crate::base::by_drive!(drive);
 }
 
-// An item is held, and the one that was held is yielded beside a clone of it.
-struct WindowStage;
+// An item after the one before it.
+struct WindowPass;
 
-impl<X: Clone, E> Stage<(Option<X>, ()), X, E> for WindowStage {
+impl<X: Clone, E> Pass<Option<X>, X, E> for WindowPass {
     type Kept = (X, X);
 
-    type Due = Infallible;
+    type Answer = Outcome<(X, X), E>;
 
     #[inline(always)]
-    fn on_item(&self, p: &mut (Option<X>, ()), item: X) -> Made<(X, X), Infallible, E> {
-        match p.0.take() {
-            Some(before) => {
-                let copy = item.clone();
-                p.0 = Some(item);
-                one(Ok(Some((before, copy))))
-            }
+    fn pass(&self, held: &mut Option<X>, item: X) -> Outcome<(X, X), E> {
+        match held.take() {
+            Some(before) => pair(held, before, item),
             None => {
-                p.0 = Some(item);
-                None
+                *held = Some(item);
+                Outcome::LeftOut
             }
         }
     }
+}
 
-    #[inline(always)]
-    fn on_stop(&self, _p: &mut (Option<X>, ()), stop: Stop<E>) -> Made<(X, X), Infallible, E> {
-        one(stopped(stop))
+// One draw after that item.
+fn pair_with_next<I: FallibleIterator>(
+    it: &mut I,
+    held: &mut Option<I::Item>,
+    before: I::Item,
+) -> Result<Option<(I::Item, I::Item)>, I::Error>
+where
+    I::Item: Clone,
+{
+    match it.next() {
+        Ok(Some(x)) => match pair(held, before, x) {
+            Outcome::Kept(both) => Ok(Some(both)),
+            Outcome::LeftOut => unreachable!(),
+            Outcome::Failure(e) => Err(e),
+            Outcome::End => unreachable!(),
+        },
+        Ok(None) => {
+            *held = Some(before);
+            Ok(None)
+        }
+        Err(e) => {
+            *held = Some(before);
+            Err(e)
+        }
     }
+}
 
-    #[inline(always)]
-    fn answer_due(&self, due: Infallible) -> AnswerAndDue<(X, X), Infallible, E> {
-        match due {}
-    }
+// Both items, the later one as a clone. The later one is buffered then, also if its clone fails.
+fn pair<X: Clone, E>(holds: &mut Option<X>, y: X, x: X) -> Outcome<(X, X), E> {
+    let copy = x.clone();
+    *holds = Some(x);
+    Outcome::Kept((y, copy))
 }

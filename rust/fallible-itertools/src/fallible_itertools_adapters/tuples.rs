@@ -1,11 +1,7 @@
 //! The adapter that yields pairs of items that don't overlap.
 
 use crate::base::Turn;
-use crate::base::kept;
-use crate::fallible_itertools_adapters::staging::{
-    AnswerAndDue, Made, Stage, Stop, drive_stage, next_past_one, one, stopped,
-};
-use core::convert::Infallible;
+use crate::base::{Outcome, Pass, drive_passing, kept};
 use fallible_iterator::FallibleIterator;
 
 /// The items two by two, as pairs: each item stands in one pair. The first of a pair is buffered until the second comes, over failures and `Ok(None)` too.
@@ -13,18 +9,15 @@ use fallible_iterator::FallibleIterator;
 #[must_use = "an iterator draws nothing until it is asked"]
 pub struct Tuples<I: FallibleIterator> {
     pub(crate) it: I,
-    // the first item of a pair; nothing is due
-    pub(crate) stage: ((Option<I::Item>, ()), Option<Infallible>),
+    // the first item of a pair
+    pub(crate) held: Option<I::Item>,
 }
 
 impl<I: FallibleIterator> Tuples<I> {
     /// Creates it. It draws nothing.
     #[inline(always)]
     pub(crate) fn new(it: I) -> Tuples<I> {
-        Tuples {
-            it,
-            stage: ((None, ()), None),
-        }
+        Tuples { it, held: None }
     }
 }
 
@@ -36,7 +29,7 @@ impl<I: FallibleIterator> Tuples<I> {
         state: &mut C,
         turn: &K,
     ) -> Result<Option<R>, I::Error> {
-        drive_stage(&mut self.it, &mut self.stage, &TupleStage, state, turn)
+        drive_passing(&mut self.it, &mut self.held, &TuplePass, state, turn)
     }
 }
 
@@ -47,11 +40,18 @@ impl<I: FallibleIterator> FallibleIterator for Tuples<I> {
 
     /// Draws once if an item is buffered, and otherwise until a second item, a failure or an `Ok(None)` comes.
     fn next(&mut self) -> Result<Option<(I::Item, I::Item)>, I::Error> {
-        next_past_one(&mut self.it, &mut self.stage, &TupleStage)
+        match self.held.take() {
+            Some(first) => completed(&mut self.it, &mut self.held, first),
+            None => match self.it.next() {
+                Ok(Some(first)) => completed(&mut self.it, &mut self.held, first),
+                Ok(None) => Ok(None),
+                Err(e) => Err(e),
+            },
+        }
     }
 
     fn size_hint(&self) -> (usize, Option<usize>) {
-        let first = if self.stage.0.0.is_some() { 0 } else { 1 };
+        let first = if self.held.is_some() { 0 } else { 1 };
         kept(self.it.size_hint(), 1, first)
     }
 
@@ -59,31 +59,40 @@ impl<I: FallibleIterator> FallibleIterator for Tuples<I> {
 }
 
 // An item is held, or yielded beside the one that is.
-struct TupleStage;
+struct TuplePass;
 
-impl<X, E> Stage<(Option<X>, ()), X, E> for TupleStage {
+impl<X, E> Pass<Option<X>, X, E> for TuplePass {
     type Kept = (X, X);
 
-    type Due = Infallible;
+    type Answer = Outcome<(X, X), E>;
 
     #[inline(always)]
-    fn on_item(&self, p: &mut (Option<X>, ()), item: X) -> Made<(X, X), Infallible, E> {
-        match p.0.take() {
-            Some(first) => one(Ok(Some((first, item)))),
+    fn pass(&self, held: &mut Option<X>, item: X) -> Outcome<(X, X), E> {
+        match held.take() {
+            Some(first) => Outcome::Kept((first, item)),
             None => {
-                p.0 = Some(item);
-                None
+                *held = Some(item);
+                Outcome::LeftOut
             }
         }
     }
+}
 
-    #[inline(always)]
-    fn on_stop(&self, _p: &mut (Option<X>, ()), stop: Stop<E>) -> Made<(X, X), Infallible, E> {
-        one(stopped(stop))
-    }
-
-    #[inline(always)]
-    fn answer_due(&self, due: Infallible) -> AnswerAndDue<(X, X), Infallible, E> {
-        match due {}
+// One draw after the first item of a pair.
+fn completed<I: FallibleIterator>(
+    it: &mut I,
+    held: &mut Option<I::Item>,
+    first: I::Item,
+) -> Result<Option<(I::Item, I::Item)>, I::Error> {
+    match it.next() {
+        Ok(Some(x)) => Ok(Some((first, x))),
+        Ok(None) => {
+            *held = Some(first);
+            Ok(None)
+        }
+        Err(e) => {
+            *held = Some(first);
+            Err(e)
+        }
     }
 }
