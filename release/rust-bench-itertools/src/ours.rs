@@ -567,10 +567,20 @@ pub fn tail_10000<W: Way>(n: u64) -> u64 {
 
 #[inline(never)]
 pub fn cmp_by<W: Way>(n: u64) -> u64 {
-    numbers(n).cmp_by(numbers(n), |x, y| Ok(x.cmp(&y))).unwrap() as u64
+    let all: Vec<u64> = (0..n).collect();
+    let other = all.clone();
+    convert(all.into_iter().map(Ok::<u64, Failure>))
+        .cmp_by(convert(other.into_iter().map(Ok)), |x, y| Ok(x.cmp(&y)))
+        .unwrap() as u64
 }
 
 #[inline(never)]
 pub fn eq_by<W: Way>(n: u64) -> u64 {
-    u64::from(numbers(n).eq_by(numbers(n), |x, y| Ok(x == y)).unwrap())
+    let all: Vec<u64> = (0..n).collect();
+    let other = all.clone();
+    u64::from(
+        convert(all.into_iter().map(Ok::<u64, Failure>))
+            .eq_by(convert(other.into_iter().map(Ok)), |x, y| Ok(x == y))
+            .unwrap(),
+    )
 }

@@ -542,11 +542,15 @@ pub fn tail_10000<W: Way>(n: u64) -> u64 {
 // std's `cmp`.
 #[inline(never)]
 pub fn cmp_by<W: Way>(n: u64) -> u64 {
-    (0..n).cmp(0..n) as u64
+    let all: Vec<u64> = (0..n).collect();
+    let other = all.clone();
+    all.into_iter().cmp(other) as u64
 }
 
 // std's `eq`.
 #[inline(never)]
 pub fn eq_by<W: Way>(n: u64) -> u64 {
-    u64::from((0..n).eq(0..n))
+    let all: Vec<u64> = (0..n).collect();
+    let other = all.clone();
+    u64::from(all.into_iter().eq(other))
 }
