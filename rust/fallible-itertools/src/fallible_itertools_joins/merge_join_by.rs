@@ -1,8 +1,8 @@
 //! The adapter that joins the items of two sources in order, as a closure compares them.
 
 use crate::base::sum;
-use crate::fallible_itertools_adapters::sides::Holding;
-use crate::fallible_itertools_adapters::zip_longest::{EitherOrBoth, greater};
+use crate::fallible_itertools_joins::sides::Holding;
+use crate::fallible_itertools_joins::zip_longest::{EitherOrBoth, greater};
 use core::cmp::Ordering;
 use fallible_iterator::{FallibleIterator, Fuse};
 

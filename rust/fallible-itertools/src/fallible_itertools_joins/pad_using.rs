@@ -1,7 +1,7 @@
 //! The adapter that yields what a closure returns for each index that no item has.
 
 use crate::base::{Outcome, Pass, passed};
-use crate::fallible_itertools_adapters::zip_longest::{EitherOrBoth, greater};
+use crate::fallible_itertools_joins::zip_longest::{EitherOrBoth, greater};
 use fallible_iterator::{FallibleIterator, Fuse};
 
 /// The items of the source, and then what the closure returns for each index below n that no item has. The source is fused. If the closure fails, its failure stands in that item's place.

@@ -1,7 +1,7 @@
 //! The adapter that pairs the items of two sources, and fails where one of them has more.
 
 use crate::base::smaller;
-use crate::fallible_itertools_adapters::sides::Holding;
+use crate::fallible_itertools_joins::sides::Holding;
 use fallible_iterator::{FallibleIterator, Fuse};
 
 /// The items of two sources, each fused, as pairs. Where one side returned `Ok(None)` and the other has an item, that item is lost, and what a closure returns is the failure. If the left fails, the right isn't drawn. If the right fails, the left's item is buffered for the next call.
