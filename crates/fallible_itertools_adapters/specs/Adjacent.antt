@@ -1,5 +1,5 @@
 -- What is said of the adjacent items of a list, and of groups.
-use Rattle.std.specs.Prelude.{◌≡◌, Bool, true, false, List, [], ◌∷◌, ◌++◌, Result, Ok, All}
+use Rattle.std.specs.Prelude.{◌≡◌, Bool, true, List, [], ◌∷◌, ◌++◌, Result, Ok, All}
 
 -- P x y holds wherever y stands next after x.
 abbrev pub Adjacent : {X : Type 0} → (X → X → Type 0) → List X → Type 0
