@@ -6,7 +6,7 @@ from made import code, hints, index, terms
 from made.tree import code_of_library
 
 CORE, ABOVE = "fallible_core/src", "fallible_iterator/src"
-TOOLS, MADE_OF = "fallible_itertools/src", ("fallible_itertools_adapters/src", "fallible_itertools_consumers/src")
+TOOLS, MADE_OF = "fallible_itertools/src", ("fallible_itertools_adapters/src", "fallible_itertools_joins/src")
 
 # The tables: the name of each, what kind of call it has, and the files that it is made from.
 TABLES = {
@@ -18,7 +18,7 @@ TABLES = {
     ]),
     "consumers": ("consuming", [f"{CORE}/traits.rt", f"{CORE}/traits/double_ended.rt"]),
     "adapters of fallible_itertools": ("adapter", [f"{TOOLS}/traits.rt", f"{MADE_OF[0]}/peeking_take_while.rt"]),
-    "other calls of fallible_itertools": ("other", [f"{TOOLS}/traits.rt", f"{MADE_OF[1]}/double_ended.rt"]),
+    "other calls of fallible_itertools": ("other", [f"{TOOLS}/traits.rt", f"{TOOLS}/double_ended.rt"]),
 }
 DRAWN = "| Call | Value | Left | If it returns |\n|---|---|---|---|"
 HEADS = {

@@ -5,7 +5,8 @@ from made import code
 # The headline first.
 PLACES = (
     ("fallible_core", "headline.rt"), ("fallible_iterator", "laws/**/*.rt"),
-    ("fallible_itertools_adapters", "laws/**/*.rt"), ("fallible_itertools_consumers", "laws/**/*.rt"),
+    ("fallible_itertools_adapters", "laws/**/*.rt"), ("fallible_itertools_joins", "laws/**/*.rt"),
+    ("fallible_itertools", "laws/**/*.rt"),
 )
 HEAD = """# Laws
 

@@ -6,7 +6,7 @@ TOP = pathlib.Path(__file__).resolve().parent.parent.parent
 CRATES = TOP / "crates"
 LIBRARY = (
     "fallible_contract", "fallible_core", "fallible_iterator",
-    "fallible_itertools_adapters", "fallible_itertools_consumers", "fallible_itertools",
+    "fallible_itertools_adapters", "fallible_itertools_joins", "fallible_itertools",
 )
 
 

@@ -106,7 +106,7 @@ def piece(name):
     return (PIECES / (name + ".rs")).read_text(encoding="utf-8").replace("\\", "\\\\")
 
 
-ADAPTERS, CONSUMERS, INLINE = "fallible_itertools_adapters", "fallible_itertools_consumers", "#[inline(always)]\n    "
+ADAPTERS, INLINE = "fallible_itertools_adapters", "#[inline(always)]\n    "
 RULES = [
     # Folds that are inlined whole, so that one of an adapter that buffers is a single loop.
     (ADAPTERS + r"/staging\.rs", r"^(?:pub )?fn (?:drive_stage|at_stop)\b", r"#[inline(always)]\n\g<0>", 2),
@@ -114,9 +114,9 @@ RULES = [
     (ADAPTERS + r"/peeking_take_while\.rs", r"^// What the closure returns on the buffered item(?:.*\n)*?\}\n\n", "", 1),
     (ADAPTERS + r"/peeking_take_while\.rs", r"\Z", piece("peeked_end"), 1),
     # What hands on the two that it got, beside a number.
-    (CONSUMERS + r"/cmp_by\.rs", r"^use fallible_iterator::extending::number_of_either;\n", "", 1),
-    (CONSUMERS + r"/cmp_by\.rs", r"\bnumber_of_either(?=\(left, right\))", "", 1),
-    (r"traits\.rs", r"^use crate::fallible_itertools_consumers::parted::", "use crate::base::drive::whole;\n\\g<0>", 1),
+    (r"cmp_by\.rs", r"^use fallible_iterator::extending::number_of_either;\n", "", 1),
+    (r"cmp_by\.rs", r"\bnumber_of_either(?=\(left, right\))", "", 1),
+    (r"traits\.rs", r"^use crate::parted::", "use crate::base::drive::whole;\n\\g<0>", 1),
     # `collect` into a `Vec` is a fold of one's own.
     (r"traits\.rs", r"^#\[cfg\(feature = \"alloc\"\)\]\n(?=use core::fmt::Display;)",
      '#[cfg(feature = "alloc")]\nuse crate::base::gathering::gathered;\n\\g<0>', 1),

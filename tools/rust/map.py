@@ -71,36 +71,35 @@ ITERATOR = [
     (r"lib\.rs", r"^pub use .*(?:answers::|folds::Turn;|searching::Test;|\{Collect, Fault)", r"#[doc(hidden)]\n\g<0>", 4),
 ]
 
-ADAPTERS, CONSUMERS = r"fallible_itertools_adapters", r"fallible_itertools_consumers"
+ADAPTERS, JOINS = r"fallible_itertools_adapters", r"fallible_itertools_joins"
 GROUPS = ADAPTERS + r"/(?:chunks|chunk_by)\.rs"
 ITERTOOLS = [
     # The three crates are modules of one.
     (ADAPTERS + r"/.*", r"(?<![\w:])crate::", "crate::fallible_itertools_adapters::", ANY),
-    (CONSUMERS + r"/.*", r"(?<![\w:])crate::", "crate::fallible_itertools_consumers::", ANY),
-    (EVERY, r"(?<![\w:])(%s|%s)::" % (ADAPTERS, CONSUMERS), r"crate::\1::", ANY),
+    (JOINS + r"/.*", r"(?<![\w:])crate::", "crate::fallible_itertools_joins::", ANY),
+    (EVERY, r"(?<![\w:])(%s|%s)::" % (ADAPTERS, JOINS), r"crate::\1::", ANY),
     # Only the trait creates its adapters.
-    (ADAPTERS + r"/.*", r"^    pub fn new\(", "    pub(crate) fn new(", 31),
+    (r"(?:%s|%s)/.*" % (ADAPTERS, JOINS), r"^    pub fn new\(", "    pub(crate) fn new(", 31),
     # No allocator is kept.
     (GROUPS, r"^    pub\(crate\) alloc: Global,\n", "", 2),
     (GROUPS, r"^struct (Chunk\w+) \{\n    alloc: Global,\n\}", r"struct \1;", 2),
-    (CONSUMERS + r"/group_map\.rs", r"^    // where .*\n    alloc: Global,\n", "", 1),
+    (r"group_map\.rs", r"^    // where .*\n    alloc: Global,\n", "", 1),
     # Collections are filled from what `new` makes, or whatever extends.
-    (CONSUMERS + r"/(?:counts|group_map|partition_map)\.rs", r"^    fn empty\((?:.*\n)*?    \}\n\n", "", 3),
+    (r"(?:counts|group_map|partition_map)\.rs", r"^    fn empty\((?:.*\n)*?    \}\n\n", "", 3),
     # Nothing is refused, so what would be told of it goes.
-    (CONSUMERS + r"/parted\.rs", r"^/// Returns the collection, or (?:.*\n)*?\}\n", "", 1),
-    (CONSUMERS + r"/parted\.rs", r"^use fallible_iterator::\{FallibleIterator, Fault\};", "use fallible_iterator::FallibleIterator;", 1),
+    (r"parted\.rs", r"^/// Returns the collection, or (?:.*\n)*?\}\n", "", 1),
+    (r"parted\.rs", r"^use fallible_iterator::\{FallibleIterator, Fault\};", "use fallible_iterator::FallibleIterator;", 1),
     (r"traits\.rs", r"::parted::\{Parted, without_fault\};", "::parted::Parted;", 1),
-    (CONSUMERS + r"/until_failure\.rs", r"^/// Returns the collection beside (?:.*\n)*?\}\n", "", 1),
+    (r"until_failure\.rs", r"^/// Returns the collection beside (?:.*\n)*?\}\n", "", 1),
     (r"traits\.rs", r"::until_failure::\{PushTurn, with_failure\};", "::until_failure::PushTurn;", 1),
-    (CONSUMERS + r"/fold_by_key\.rs", r"\bB: Copy\b", "B: Clone", 1),
-    (CONSUMERS + r"/fold_by_key\.rs", r"\bFault<E>(?=[,>])", "E", 1),
-    (CONSUMERS + r"/fold_by_key\.rs", r"^use fallible_iterator::\{Fault, Turn\};", "use fallible_iterator::Turn;", 1),
+    (r"fold_by_key\.rs", r"\bB: Copy\b", "B: Clone", 1),
+    (r"fold_by_key\.rs", r"\bFault<E>(?=[,>])", "E", 1),
+    (r"fold_by_key\.rs", r"^use fallible_iterator::\{Fault, Turn\};", "use fallible_iterator::Turn;", 1),
     # std has its own sums and products.
-    (CONSUMERS + r"\.rs", r"^pub (?:mod total;|use total::Total;)\n", "", 2),
-    (r"lib\.rs", r",\s+Total\b", "", 1),
-    (CONSUMERS + r"/k_smallest\.rs", r"^// (?:Where the item|Inserts the|Moves the|Sorts the items in|Cuts what is kept, and)(?:.*\n)*?\}\n\n", "", 5),
+    (r"lib\.rs", r"^pub (?:mod total;|use total::Total;)\n", "", 2),
+    (r"k_smallest\.rs", r"^// (?:Where the item|Inserts the|Moves the|Sorts the items in|Cuts what is kept, and)(?:.*\n)*?\}\n\n", "", 5),
     # What no user sees.
-    (CONSUMERS + r"/(?:keyed|parted)\.rs", r"^pub struct", "pub(crate) struct", 2),
+    (r"(?:keyed|parted)\.rs", r"^pub struct", "pub(crate) struct", 2),
     # A marker that asks nothing of `E`.
     (ADAPTERS + r"/err_into\.rs", r"^ *#\[derive_where\(.*\)\]\n", "", 2),
     (ADAPTERS + r"/err_into\.rs", r"(pub\(crate\) made: PhantomData<)E>", r"\1fn() -> E>", 1),
@@ -108,40 +107,41 @@ ITERTOOLS = [
     # Without its number it can be cloned and shown.
     (ADAPTERS + r"/stop_after\.rs", r"^pub struct StopAfter<", r"#[derive(Clone, Debug)]\n\g<0>", 1),
     # Imports.
-    (CONSUMERS + r"/all_unique\.rs", r"^use fallible_iterator::\{Fault, Turn\};", "use fallible_iterator::Turn;", 1),
-    (CONSUMERS + r"/sorted\.rs", r"^use fallible_iterator::Fault;", "use alloc::vec::Vec;", 1),
+    (r"all_unique\.rs", r"^use fallible_iterator::\{Fault, Turn\};", "use fallible_iterator::Turn;", 1),
+    (r"sorted\.rs", r"^use fallible_iterator::Fault;", "use alloc::vec::Vec;", 1),
     (r"traits\.rs", r"^use fallible_iterator::\{Collect, FallibleIterator, Fault, Into", "use fallible_iterator::"
      "fallible_contract::collecting::{CollectTurn, Extended};\nuse fallible_iterator::{FallibleIterator, Into", 1),
-    (CONSUMERS + r"/join\.rs", r"^use core::fmt::Display;", "use alloc::string::String;\nuse core::fmt::{Display, Write};", 1),
+    (r"join\.rs", r"^use core::fmt::Display;", "use alloc::string::String;\nuse core::fmt::{Display, Write};", 1),
     # The trait of the Rust crate is for types without a size too.
-    (r"(?:traits|.*/double_ended|.*/peeking_take_while)\.rs", r"^(pub trait \w+: \w+) \{", r"\1 + Sized {", 3),
+    (r"(?:traits|double_ended|.*/peeking_take_while)\.rs", r"^(pub trait \w+: \w+) \{", r"\1 + Sized {", 3),
     # Features.
-    (r"fallible_\w+\.rs", r"^pub (?:mod (?:chunk_by|chunks|join|k_smallest|kmerge|kmerge_by|merge_tree|sorted|sorted_unstable|tail);|use (?:chunk_by|chunks|kmerge|kmerge_by)::)", r'#[cfg(feature = "alloc")]\n\g<0>', 14),
-    (r"fallible_\w+\.rs", r"^pub (?:mod (?:all_unique|counts|duplicates|fold_by_key|group_map|keyed|unique|unique_by);|use (?:duplicates|unique(?:_by)?)::)",
+    (r"(?:fallible_\w+|lib)\.rs", r"^pub (?:mod (?:chunk_by|chunks|join|k_smallest|kmerge|kmerge_by|merge_tree|sorted|sorted_unstable|tail);|use (?:chunk_by|chunks|kmerge|kmerge_by)::)", r'#[cfg(feature = "alloc")]\n\g<0>', 14),
+    (r"(?:fallible_\w+|lib)\.rs", r"^pub (?:mod (?:all_unique|counts|duplicates|fold_by_key|group_map|keyed|unique|unique_by);|use (?:duplicates|unique(?:_by)?)::)",
      r'#[cfg(feature = "std")]\n\g<0>', 11),
     (r"(?:lib|traits)\.rs", r"\bChunkBy,\s+Chunks,\s+|\bDuplicates,\s+|\bKMerge,\s+KMergeBy,\s+|\bUnique,\s+UniqueBy,\s+", "", 7),
     (r"(?:lib|traits)\.rs", r"^((?:pub )?use crate::fallible_itertools_adapters::)\{",
      r'#[cfg(feature = "alloc")]\n\1{ChunkBy, Chunks};\n#[cfg(feature = "std")]\n\1{Duplicates, Unique, UniqueBy};\n\g<0>', 2),
-    (r".*/(?:chunk_by|chunks|group_map|k_smallest|kmerge_by|sorted_unstable)\.rs", r"\A(//.*\n\n)", r"\1use alloc::vec::Vec;\n", 6),
+    (r"(?:.*/)?(?:chunk_by|chunks|group_map|k_smallest|kmerge_by|sorted_unstable)\.rs", r"\A(//.*\n\n)", r"\1use alloc::vec::Vec;\n", 6),
     (r".*/(?:kmerge_by|merge_tree)\.rs", r"\A(//.*\n\n)", r"\1use alloc::boxed::Box;\n", 2),
-    (r"lib\.rs", r"^pub use crate::fallible_itertools_adapters::kmerge_by::\{kmerge, kmerge_by\};", r'#[cfg(feature = "alloc")]\npub use crate::fallible_itertools_adapters::{KMerge, KMergeBy, kmerge_by::{kmerge, kmerge_by}};', 1),
-    (r"traits\.rs", r"^use crate::fallible_itertools_consumers::(?:join::|\{k_smallest)", r'#[cfg(feature = "alloc")]\n\g<0>', 2),
+    (r"lib\.rs", r"^pub use crate::fallible_itertools_joins::kmerge_by::\{kmerge, kmerge_by\};", r'#[cfg(feature = "alloc")]\npub use crate::fallible_itertools_joins::{KMerge, KMergeBy, kmerge_by::{kmerge, kmerge_by}};', 1),
+    (r"traits\.rs", r"^use crate::(?:join::|\{k_smallest)", r'#[cfg(feature = "alloc")]\n\g<0>', 2),
     (r"traits\.rs", r"^use std::collections::\{HashMap, HashSet, VecDeque\};",
      r'#[cfg(feature = "alloc")]\nuse alloc::collections::VecDeque;\nuse std::collections::{HashMap, HashSet};', 1),
     (r"traits\.rs", r"^use core::fmt::Display;",
      r'#[cfg(feature = "alloc")]\nuse alloc::string::String;\n#[cfg(feature = "alloc")]\nuse alloc::vec::Vec;\n#[cfg(feature = "alloc")]\n\g<0>', 1),
-    (r"traits\.rs", r"^use (?:crate::fallible_itertools_consumers::(?:all_unique|counts|group_map|keyed)::|core::hash::|std::coll)",
+    (r"traits\.rs", r"^use (?:crate::(?:all_unique|counts|group_map|keyed)::|core::hash::|std::coll)",
      r'#[cfg(feature = "std")]\n\g<0>', 6),
     (r"traits\.rs", r"^    fn (?:chunks|chunk_by|join|k_smallest|sorted(?:_unstable)?(?:_by|_by_key)?|tail)\b", r'    #[cfg(feature = "alloc")]\n\g<0>', 11),
     (r"traits\.rs", r"^    fn (?:all_unique|counts|counts_by|duplicates|fold_by_key|into_group_map|into_group_map_by|unique|unique_by)\b",
      r'    #[cfg(feature = "std")]\n\g<0>', 9),
-    (r"lib\.rs", r"\A(?://!.*\n)+\n", HEAD + "mod errors;\nmod fallible_itertools_adapters;\nmod fallible_itertools_consumers;\n", 1),
+    (r"lib\.rs", r"\A(?://!.*\n)+\n", HEAD + "mod errors;\nmod fallible_itertools_adapters;\nmod fallible_itertools_joins;\n", 1),
     # What an adapter of one's own is made of, which no page tells.
-    (r"lib\.rs", r" ZipLongest,\s+staging,\n\};\n",
-     " ZipLongest,\n};\n#[doc(hidden)]\npub use crate::fallible_itertools_adapters::staging;\n", 1),
-    (r"lib\.rs", r"^pub mod \w+;", r"#[doc(hidden)]\n\g<0>", 1),
-    (CONSUMERS + r"/tail\.rs", r"^use std::collections::VecDeque;", "use alloc::collections::VecDeque;", 1),
-    (CONSUMERS + r"/(?:all_unique|counts|group_map|join|k_smallest|partition_map|tail|until_failure)\.rs", r"\A(//.*\n\n)",
+    (r"lib\.rs", r" WithPosition,\s+staging,\n\};\n",
+     " WithPosition,\n};\n#[doc(hidden)]\npub use crate::fallible_itertools_adapters::staging;\n", 1),
+    (r"lib\.rs", r"^pub (mod (?!traits;)\w+;)", r"\1", 27),
+    (r"lib\.rs", r"^pub mod traits;", r"#[doc(hidden)]\n\g<0>", 1),
+    (r"tail\.rs", r"^use std::collections::VecDeque;", "use alloc::collections::VecDeque;", 1),
+    (r"(?:all_unique|counts|group_map|join|k_smallest|partition_map|tail|until_failure)\.rs", r"\A(//.*\n\n)",
      r"\1use fallible_iterator::memory::AllocError;\n", 8),
 ]
 
@@ -154,6 +154,6 @@ def to_rust(crate, files):
     if crate == "fallible-iterator":
         drop_files("map", files, LEFT_OUT)
     else:
-        drop_files("map", files, ["fallible_itertools_consumers/total.rs"])
+        drop_files("map", files, ["total.rs"])
     apply("map", files, STD)
     apply("map", files, ITERATOR if crate == "fallible-iterator" else ITERTOOLS)

@@ -11,7 +11,7 @@ ghost use Rattle.fallible_itertools.specs.Positions.{positions_where};
 ghost use Rattle.fallible_itertools.specs.IsSortedBy.{in_order_by};
 ghost use Rattle.fallible_itertools.specs.IsSorted.{in_order, in_order_by_key};
 ghost use Rattle.fallible_itertools.specs.FoldWhile.{rest_while, folded_while, value_of, is_done_at};
-ghost use Rattle.fallible_itertools.specs.ConsumerTypes.fold_while.FoldWhile.TheVariants.{Continue, Done};
+ghost use Rattle.fallible_itertools.specs.declared.fold_while.FoldWhile.TheVariants.{Continue, Done};
 
 use fallible_iterator::{FallibleIterator, Fault, convert};
 use fallible_itertools::{FallibleItertools, FoldWhile};

@@ -1,4 +1,11 @@
 //! What a trace of each adapter is, and that hints are sound, as functions whose body is empty or calls other laws.
+
+mod failures;
+mod fold_by_key;
+mod joined;
+mod totals;
+
+pub use failures::{law_partition_failures, law_until_failure};
 pub use fallible_itertools_adapters::laws::nests::law_nest_of_six;
 pub use fallible_itertools_adapters::laws::{
     law_chunked, law_chunked_by, law_coalesced, law_deduped, law_deduped_by, law_deduped_by_key,
@@ -7,18 +14,20 @@ pub use fallible_itertools_adapters::laws::{
     law_hints_coalesce, law_hints_copied, law_hints_dedup, law_hints_dedup_by,
     law_hints_dedup_by_key, law_hints_dedup_by_with_count, law_hints_dedup_with_count,
     law_hints_duplicates, law_hints_err_into, law_hints_fuse_at_failure, law_hints_inspect_err,
-    law_hints_interleave, law_hints_intersperse, law_hints_intersperse_with, law_hints_kmerge,
-    law_hints_kmerge_by, law_hints_listed_copied, law_hints_listed_err_into,
-    law_hints_listed_inspect_err, law_hints_merge, law_hints_merge_by, law_hints_merge_join_by,
-    law_hints_or_else, law_hints_pad_using, law_hints_peeking_take_while, law_hints_positions,
-    law_hints_stop_after, law_hints_take_while_inclusive, law_hints_tuple_windows,
-    law_hints_tuples, law_hints_unique, law_hints_unique_by, law_hints_with_position,
-    law_hints_zip_eq, law_hints_zip_longest, law_interleaved, law_interspersed,
-    law_interspersed_by, law_kmerged, law_kmerged_in_order, law_merge_joined, law_merged,
-    law_merged_in_order, law_padded, law_positioned, law_rest_peeking_take_while,
-    law_taken_while_inclusive, law_tupled, law_unique_by_of, law_unique_of, law_windowed,
-    law_zipped_longest,
+    law_hints_intersperse, law_hints_intersperse_with, law_hints_listed_copied,
+    law_hints_listed_err_into, law_hints_listed_inspect_err, law_hints_or_else,
+    law_hints_peeking_take_while, law_hints_positions, law_hints_stop_after,
+    law_hints_take_while_inclusive, law_hints_tuple_windows, law_hints_tuples, law_hints_unique,
+    law_hints_unique_by, law_hints_with_position, law_interspersed, law_interspersed_by,
+    law_positioned, law_rest_peeking_take_while, law_taken_while_inclusive, law_tupled,
+    law_unique_by_of, law_unique_of, law_windowed,
 };
-pub use fallible_itertools_consumers::laws::{
-    law_added, law_folded_by_key, law_joined, law_partition_failures, law_until_failure,
+pub use fallible_itertools_joins::laws::{
+    law_hints_interleave, law_hints_kmerge, law_hints_kmerge_by, law_hints_merge,
+    law_hints_merge_by, law_hints_merge_join_by, law_hints_pad_using, law_hints_zip_eq,
+    law_hints_zip_longest, law_interleaved, law_kmerged, law_kmerged_in_order, law_merge_joined,
+    law_merged, law_merged_in_order, law_padded, law_zipped_longest,
 };
+pub use fold_by_key::law_folded_by_key;
+pub use joined::law_joined;
+pub use totals::law_added;

@@ -1,20 +1,55 @@
-//! More calls on every fallible iterator: items grouped, merged, paired and searched. Its adapters and its consumers are a crate each, which it hands on; all three stand on `fallible_iterator`.
+//! More calls on every fallible iterator: items grouped, merged, paired and searched. Its adapters are two crates, which it hands on: those over one source, and those that join sources. All three stand on `fallible_iterator`.
 //!
 //! Import the trait [`FallibleItertools`] to have them, and [`DoubleEndedFallibleItertools`] for those from the back.
 #![tactic(auto)]
 
+pub mod all_unique;
+pub mod checked_sum;
+pub mod cmp_by;
+pub mod converting;
+pub mod counts;
+pub mod double_ended;
+pub mod equal;
+pub mod exactly_one;
+pub mod find_or_last;
+pub mod find_position;
+pub mod fold_by_key;
+pub mod fold_while;
+pub mod group_map;
+pub mod is_sorted;
+pub mod is_sorted_by;
+pub mod join;
+pub mod k_smallest;
+pub mod keyed;
 pub mod laws;
+pub mod minmax;
+pub mod minmax_by;
+pub mod parted;
+pub mod partition_map;
+pub mod position_best;
+pub mod sorted;
+pub mod sorted_unstable;
+pub mod tail;
+pub mod total;
 pub mod traits;
+pub mod until_failure;
 
-pub use fallible_itertools_adapters::kmerge_by::{kmerge, kmerge_by};
+pub use checked_sum::CheckedTotal;
+pub use double_ended::DoubleEndedFallibleItertools;
+pub use exactly_one::NotOne;
 pub use fallible_itertools_adapters::{
     ChunkBy, Chunks, Coalesce, Copied, Dedup, DedupBy, DedupByKey, DedupByWithCount,
-    DedupWithCount, Duplicates, EitherOrBoth, ErrInto, FuseAtFailure, InspectErr, Interleave,
-    Intersperse, IntersperseWith, KMerge, KMergeBy, Merge, MergeBy, MergeJoinBy, OrElse, PadUsing,
-    PeekingNext, PeekingTakeWhile, Position, Positions, StopAfter, TakeWhileInclusive,
-    TupleWindows, Tuples, Unique, UniqueBy, WithPosition, ZipEq, ZipLongest, staging,
+    DedupWithCount, Duplicates, ErrInto, FuseAtFailure, InspectErr, Intersperse, IntersperseWith,
+    OrElse, PeekingNext, PeekingTakeWhile, Position, Positions, StopAfter, TakeWhileInclusive,
+    TupleWindows, Tuples, Unique, UniqueBy, WithPosition, staging,
 };
-pub use fallible_itertools_consumers::{
-    CheckedTotal, DoubleEndedFallibleItertools, Either, FoldWhile, MinMaxResult, NotOne, Total,
+pub use fallible_itertools_joins::kmerge_by::{kmerge, kmerge_by};
+pub use fallible_itertools_joins::{
+    EitherOrBoth, Interleave, KMerge, KMergeBy, Merge, MergeBy, MergeJoinBy, PadUsing, ZipEq,
+    ZipLongest,
 };
+pub use fold_while::FoldWhile;
+pub use minmax::MinMaxResult;
+pub use partition_map::Either;
+pub use total::Total;
 pub use traits::FallibleItertools;

@@ -26,74 +26,96 @@ ghost use Rattle.fallible_iterator.specs.OneToOne.Enumerate.{IsNumberable, enume
 ghost use Rattle.fallible_iterator.specs.OneToOne.Map.{map_contract};
 ghost use Rattle.fallible_iterator.specs.Picking.{call_at_two, takes_at_two};
 ghost use Rattle.fallible_iterator.specs.Searching as search;
-ghost use Rattle.fallible_itertools_consumers.specs.AllUnique.{AllUniqueAs, AllUniqueDrains, rest_repeated};
+ghost use Rattle.fallible_itertools.specs.AllUnique.{AllUniqueAs, AllUniqueDrains, rest_repeated};
 ghost use Rattle.fallible_itertools_adapters.specs.ChunkBy.{MadeGroup, chunk_by_contract, chunk_by_parts, chunk_by_plan, chunk_by_stops, chunked_by, puts_by_key, takes_key};
 ghost use Rattle.fallible_itertools_adapters.specs.Chunks.{chunked, chunks_contract, chunks_parts};
 ghost use Rattle.fallible_itertools_adapters.specs.Coalesce as coalesce;
-ghost use Rattle.fallible_itertools_consumers.specs.CmpBy as comparing;
-ghost use Rattle.fallible_itertools_consumers.specs.Converting as trying;
+ghost use Rattle.fallible_itertools.specs.CmpBy as comparing;
+ghost use Rattle.fallible_itertools.specs.Converting as trying;
 ghost use Rattle.fallible_itertools_adapters.specs.Copied.{copied_contract, copied_parts};
-ghost use Rattle.fallible_itertools_consumers.specs.Counts.{IsCountsOf};
+ghost use Rattle.fallible_itertools.specs.Counts.{IsCountsOf};
 ghost use Rattle.fallible_itertools_adapters.specs.Dedup.{dedup_contract, dedup_parts, dedup_stops, deduped};
 ghost use Rattle.fallible_itertools_adapters.specs.DedupBy.{dedup_by_contract, dedup_by_parts, dedup_by_plan, deduped_by, same_call, same_takes};
 ghost use Rattle.fallible_itertools_adapters.specs.DedupByKey as dedup_by_key;
 ghost use Rattle.fallible_itertools_adapters.specs.DedupByWithCount.{dedup_by_with_count_contract, dedup_by_with_count_parts};
 ghost use Rattle.fallible_itertools_adapters.specs.DedupWithCount.{dedup_with_count_contract, dedup_with_count_parts};
 ghost use Rattle.fallible_itertools_adapters.specs.Duplicates.{duplicates_came, duplicates_contract, duplicates_of, duplicates_parts, duplicates_source};
-ghost use Rattle.fallible_itertools_consumers.specs.Equal.{FirstCall, TestCall, contained, equal_to_first, equal_value, rest_contained, rest_unequal, unequal_pick, value_or_both};
+ghost use Rattle.fallible_itertools.specs.Equal.{FirstCall, TestCall, contained, equal_to_first, equal_value, rest_contained, rest_unequal, unequal_pick, value_or_both};
 ghost use Rattle.fallible_itertools_adapters.specs.ErrInto.{err_into_contract, err_into_parts};
-ghost use Rattle.fallible_itertools_consumers.specs.ExactlyOne.{AtMostOneDrains, at_most_one_of, wanting_one};
+ghost use Rattle.fallible_itertools.specs.ExactlyOne.{AtMostOneDrains, at_most_one_of, wanting_one};
 ghost use Rattle.fallible_itertools_adapters.specs.FuseAtFailure.{fuse_at_failure_contract, fuse_at_failure_parts, up_to_failure};
-ghost use Rattle.fallible_itertools_consumers.specs.GroupMap.{GroupRefuses, IsGroupMapOf};
+ghost use Rattle.fallible_itertools.specs.GroupMap.{GroupRefuses, IsGroupMapOf};
 ghost use Rattle.fallible_itertools_adapters.specs.InspectErr.{inspect_err_contract, inspect_err_parts, seen_call};
 ghost use Rattle.fallible_itertools_adapters.specs.OrElse.{or_else_contract, or_else_parts, recovered};
-ghost use Rattle.fallible_itertools_adapters.specs.Interleave as interleave;
+ghost use Rattle.fallible_itertools_joins.specs.Interleave as interleave;
 ghost use Rattle.fallible_itertools_adapters.specs.Intersperse.{intersperse_contract, intersperse_parts, intersperse_plan, interspersed, interspersed_by};
 ghost use Rattle.fallible_itertools_adapters.specs.IntersperseWith as intersperse_with;
 ghost use Rattle.fallible_iterator.specs.Sources.FromFn.{call_of_none};
-ghost use Rattle.fallible_itertools_consumers.specs.Join.{JoinedAs};
-ghost use Rattle.fallible_itertools_adapters.specs.Merge.{merge_contract, merge_parts, merged_in_order};
-ghost use Rattle.fallible_itertools_adapters.specs.MergeBy as merge_by;
-ghost use Rattle.fallible_itertools_adapters.specs.MergeJoinBy as join_by;
-ghost use Rattle.fallible_itertools_consumers.specs.MinMax.{MinMaxDrains, minmaxed, or_less};
-ghost use Rattle.fallible_itertools_consumers.specs.MinMaxBy.{MinMaxCall, MinMaxKeyCall, MinMaxKeyDrains, minmaxed_by, minmaxed_by_key, takes_beside};
-ghost use Rattle.fallible_itertools_adapters.specs.PadUsing as pad_using;
-ghost use Rattle.fallible_itertools_consumers.specs.PositionBest.{PlaceDrains, position_greatest, position_least};
+ghost use Rattle.fallible_itertools.specs.Join.{JoinedAs};
+ghost use Rattle.fallible_itertools_joins.specs.Merge.{merge_contract, merge_parts, merged_in_order};
+ghost use Rattle.fallible_itertools_joins.specs.MergeBy as merge_by;
+ghost use Rattle.fallible_itertools_joins.specs.MergeJoinBy as join_by;
+ghost use Rattle.fallible_itertools.specs.MinMax.{MinMaxDrains, minmaxed, or_less};
+ghost use Rattle.fallible_itertools.specs.MinMaxBy.{MinMaxCall, MinMaxKeyCall, MinMaxKeyDrains, minmaxed_by, minmaxed_by_key, takes_beside};
+ghost use Rattle.fallible_itertools_joins.specs.PadUsing as pad_using;
+ghost use Rattle.fallible_itertools.specs.PositionBest.{PlaceDrains, position_greatest, position_least};
 ghost use Rattle.fallible_itertools_adapters.specs.Plan.{passes, plan_can};
 ghost use Rattle.fallible_itertools_adapters.specs.Positions.{positions_contract, positions_parts, positions_source, positions_where};
 ghost use Rattle.fallible_itertools_adapters.specs.RunCounts.{count_plan, count_stops, deduped_by_with_count, deduped_with_count};
-ghost use Rattle.fallible_itertools_consumers.specs.Parted.{PartitionedFailuresAs, parted_step, without_source};
-ghost use Rattle.fallible_itertools_consumers.specs.PartitionMap.{EitherRefused, MadeOfEithers};
-ghost use Rattle.fallible_itertools_consumers.specs.FindOrLast.{FoundOrFirst, FoundOrLast, found_or_first, found_or_last};
-ghost use Rattle.fallible_itertools_consumers.specs.FindPosition.{find_position_pick, position_found};
-ghost use Rattle.fallible_itertools_consumers.specs.IsSorted.{ItselfCall, OrderCall, in_order, in_order_by_key};
-ghost use Rattle.fallible_itertools_consumers.specs.IsSortedBy.{PairCall, in_order_by, takes_pair};
-ghost use Rattle.fallible_itertools_consumers.specs.Keyed.{keyed, keyed_contract};
-ghost use Rattle.fallible_itertools_consumers.specs.FoldByKey.{AddsValue, FoldedByKeyAs, FoldsByKey, IsKeyFoldOf, checked_folds, last_value};
-ghost use Rattle.fallible_itertools_consumers.specs.FoldWhile.{WhileCall, FoldWhileDrains, folded_while, rest_while};
-ghost use Rattle.fallible_itertools_consumers.specs.KSmallest.{IsSmallestOf, SmallestRefuses};
-ghost use Rattle.fallible_itertools_consumers.specs.Tail.{IsTailOf, TailRefuses};
-ghost use Rattle.fallible_itertools_consumers.specs.Sorted.{CollectsSorted, HasItems, IsSortedByCalls, IsSortedByComparisons, IsSortedByKeyOf, IsSortedByTest, IsSortedOf};
-ghost use Rattle.fallible_itertools_consumers.specs.SortedUnstable.{CollectsInPlace, HasItemsInOrder, HasItemsInOrderByCalls, HasItemsInOrderByComparisons, HasItemsInOrderByKey, HasItemsInOrderByTest};
-ghost use Rattle.fallible_itertools_adapters.specs.Sides as sides;
+ghost use Rattle.fallible_itertools.specs.Parted.{PartitionedFailuresAs, parted_step, without_source};
+ghost use Rattle.fallible_itertools.specs.PartitionMap.{EitherRefused, MadeOfEithers};
+ghost use Rattle.fallible_itertools.specs.FindOrLast.{FoundOrFirst, FoundOrLast, found_or_first, found_or_last};
+ghost use Rattle.fallible_itertools.specs.FindPosition.{find_position_pick, position_found};
+ghost use Rattle.fallible_itertools.specs.IsSorted.{ItselfCall, OrderCall, in_order, in_order_by_key};
+ghost use Rattle.fallible_itertools.specs.IsSortedBy.{PairCall, in_order_by, takes_pair};
+ghost use Rattle.fallible_itertools.specs.Keyed.{keyed, keyed_contract};
+ghost use Rattle.fallible_itertools.specs.FoldByKey.{AddsValue, FoldedByKeyAs, FoldsByKey, IsKeyFoldOf, checked_folds, last_value};
+ghost use Rattle.fallible_itertools.specs.FoldWhile.{WhileCall, FoldWhileDrains, folded_while, rest_while};
+ghost use Rattle.fallible_itertools.specs.KSmallest.{IsSmallestOf, SmallestRefuses};
+ghost use Rattle.fallible_itertools.specs.Tail.{IsTailOf, TailRefuses};
+ghost use Rattle.fallible_itertools.specs.Sorted.{CollectsSorted, HasItems, IsSortedByCalls, IsSortedByComparisons, IsSortedByKeyOf, IsSortedByTest, IsSortedOf};
+ghost use Rattle.fallible_itertools.specs.SortedUnstable.{CollectsInPlace, HasItemsInOrder, HasItemsInOrderByCalls, HasItemsInOrderByComparisons, HasItemsInOrderByKey, HasItemsInOrderByTest};
+ghost use Rattle.fallible_itertools_joins.specs.Sides as sides;
 ghost use Rattle.fallible_itertools_adapters.specs.StopAfter.{stop_after_contract, stop_after_items, stop_after_parts, stopped_after};
 ghost use Rattle.fallible_itertools_adapters.specs.Staging.{MayMeet};
 ghost use Rattle.fallible_itertools_adapters.specs.TakeWhileInclusive as inclusive;
-ghost use Rattle.fallible_itertools_consumers.specs.CheckedSum.{TotalDrains, totalled};
+ghost use Rattle.fallible_itertools.specs.CheckedSum.{TotalDrains, totalled};
 ghost use Rattle.fallible_itertools_adapters.specs.TupleWindows.{HasSecondCloned, tuple_windows_contract, tuple_windows_parts, windowed};
 ghost use Rattle.fallible_itertools_adapters.specs.Tuples.{tupled, tuples_contract, tuples_parts};
 ghost use Rattle.fallible_itertools_adapters.specs.Unique.{unique_contract, unique_of, unique_parts, unique_seen, unique_source};
 ghost use Rattle.fallible_itertools_adapters.specs.UniqueBy as unique_by;
 ghost use Rattle.fallible_itertools_adapters.specs.UnlessRefused.{ListsUnlessRefused};
-ghost use Rattle.fallible_itertools_consumers.specs.Total.{AddedDrains, added};
-ghost use Rattle.fallible_itertools_consumers.specs.UntilFailure.{CollectedUntilAs, CollectsUntil, rest_failure};
+ghost use Rattle.fallible_itertools.specs.Total.{AddedDrains, added};
+ghost use Rattle.fallible_itertools.specs.UntilFailure.{CollectedUntilAs, CollectsUntil, rest_failure};
 ghost use Rattle.fallible_itertools_adapters.specs.WithPosition.{positioned, with_position_contract, with_position_parts};
-ghost use Rattle.fallible_itertools_adapters.specs.ZipEq as zip_eq;
-ghost use Rattle.fallible_itertools_adapters.specs.ZipLongest as zip_longest;
-ghost use Rattle.fallible_itertools_consumers.specs.declared.exactly_one.NotOne.TheVariants.{More};
-ghost use Rattle.fallible_itertools_consumers.specs.declared.fold_while.FoldWhile.TheVariants.{Done};
-ghost use Rattle.fallible_itertools_consumers.specs.declared.minmax.MinMaxResult.TheVariants.{NoElements};
+ghost use Rattle.fallible_itertools_joins.specs.ZipEq as zip_eq;
+ghost use Rattle.fallible_itertools_joins.specs.ZipLongest as zip_longest;
+ghost use Rattle.fallible_itertools.specs.declared.exactly_one.NotOne.TheVariants.{More};
+ghost use Rattle.fallible_itertools.specs.declared.fold_while.FoldWhile.TheVariants.{Done};
+ghost use Rattle.fallible_itertools.specs.declared.minmax.MinMaxResult.TheVariants.{NoElements};
 
+use crate::all_unique::{AllUniqueTurn, unique_or_fault};
+use crate::checked_sum::{CheckedTotal, ProductTurn, SumTurn, total_or_none};
+use crate::cmp_by::{CmpTurn, EqTurn, compare_by};
+use crate::converting::converted;
+use crate::counts::Tally;
+use crate::equal::{AllEqualTurn, ContainsTurn, UnequalTurn, first_or_both};
+use crate::exactly_one::NotOne;
+use crate::find_or_last::{FindFirstTurn, FindLastTurn, or_kept};
+use crate::find_position::FindPositionTurn;
+use crate::fold_while::{FoldWhile, FoldWhileTurn, while_or_stop};
+use crate::group_map::GroupMap;
+use crate::is_sorted::{InOrderTurn, SortedTurn};
+use crate::is_sorted_by::SortedByTurn;
+use crate::join::JoinTurn;
+use crate::keyed::Keyed;
+use crate::minmax::{MinMaxResult, MinMaxTurn, lesser_first};
+use crate::minmax_by::{find_both_by, find_both_by_key};
+use crate::parted::{Parted, without_fault};
+use crate::partition_map::Either;
+use crate::position_best::{first_is_less, place_alone};
+use crate::until_failure::{PushTurn, with_failure};
+use crate::{k_smallest, sorted, sorted_unstable, tail};
 use fallible_iterator::extending::{
     FindTest, FindTurn, ForEachTurn, PositionTurn, ReadEq, Reading, answer_or, answer_or_none,
     found, ordered,
@@ -101,34 +123,13 @@ use fallible_iterator::extending::{
 use fallible_iterator::{Collect, FallibleIterator, Fault, IntoFallibleIterator};
 use fallible_itertools_adapters::{
     ChunkBy, Chunks, Coalesce, Copied, Dedup, DedupBy, DedupByKey, DedupByWithCount,
-    DedupWithCount, Duplicates, ErrInto, FuseAtFailure, InspectErr, Interleave, Intersperse,
-    IntersperseWith, Merge, MergeBy, MergeJoinBy, OrElse, PadUsing, Positions, StopAfter,
-    TakeWhileInclusive, TupleWindows, Tuples, Unique, UniqueBy, WithPosition, ZipEq, ZipLongest,
+    DedupWithCount, Duplicates, ErrInto, FuseAtFailure, InspectErr, Intersperse, IntersperseWith,
+    OrElse, Positions, StopAfter, TakeWhileInclusive, TupleWindows, Tuples, Unique, UniqueBy,
+    WithPosition,
 };
-use fallible_itertools_consumers::all_unique::{AllUniqueTurn, unique_or_fault};
-use fallible_itertools_consumers::checked_sum::{
-    CheckedTotal, ProductTurn, SumTurn, total_or_none,
+use fallible_itertools_joins::{
+    Interleave, Merge, MergeBy, MergeJoinBy, PadUsing, ZipEq, ZipLongest,
 };
-use fallible_itertools_consumers::cmp_by::{CmpTurn, EqTurn, compare_by};
-use fallible_itertools_consumers::converting::converted;
-use fallible_itertools_consumers::counts::Tally;
-use fallible_itertools_consumers::equal::{AllEqualTurn, ContainsTurn, UnequalTurn, first_or_both};
-use fallible_itertools_consumers::exactly_one::NotOne;
-use fallible_itertools_consumers::find_or_last::{FindFirstTurn, FindLastTurn, or_kept};
-use fallible_itertools_consumers::find_position::FindPositionTurn;
-use fallible_itertools_consumers::fold_while::{FoldWhile, FoldWhileTurn, while_or_stop};
-use fallible_itertools_consumers::group_map::GroupMap;
-use fallible_itertools_consumers::is_sorted::{InOrderTurn, SortedTurn};
-use fallible_itertools_consumers::is_sorted_by::SortedByTurn;
-use fallible_itertools_consumers::join::JoinTurn;
-use fallible_itertools_consumers::keyed::Keyed;
-use fallible_itertools_consumers::minmax::{MinMaxResult, MinMaxTurn, lesser_first};
-use fallible_itertools_consumers::minmax_by::{find_both_by, find_both_by_key};
-use fallible_itertools_consumers::parted::{Parted, without_fault};
-use fallible_itertools_consumers::partition_map::Either;
-use fallible_itertools_consumers::position_best::{first_is_less, place_alone};
-use fallible_itertools_consumers::until_failure::{PushTurn, with_failure};
-use fallible_itertools_consumers::{k_smallest, sorted, sorted_unstable, tail};
 use std::alloc::{AllocError, Global};
 use std::cmp::Ordering;
 use std::collections::{HashMap, HashSet, VecDeque};
@@ -877,15 +878,15 @@ pub trait FallibleItertools: FallibleIterator {
     final fn sum<S>(mut self) -> Result<S, Self::Error>
     where
         Self: FallibleIterator<Item = S>,
-        S: fallible_itertools_consumers::Total,
+        S: crate::Total,
         requires can_next { Self.contract.can_next self }
         requires finite { Self.contract.is_finite self }
         ensures sum { AddedDrains S.plus Self.contract.steps S.zero self result }
         ensures value { OverList Self.contract.steps self (λ l. result ≡ added S.plus S.zero l) }
     {
         let mut sum = S::zero();
-        let answer = self.drive(&mut sum, &fallible_itertools_consumers::total::AddTurn);
-        fallible_itertools_consumers::total::total_or_failure(answer, sum)
+        let answer = self.drive(&mut sum, &crate::total::AddTurn);
+        crate::total::total_or_failure(answer, sum)
     }
 
     /// Returns the product of the items, multiplied in order. Of no items it returns 1.
@@ -899,18 +900,15 @@ pub trait FallibleItertools: FallibleIterator {
     final fn product<S>(mut self) -> Result<S, Self::Error>
     where
         Self: FallibleIterator<Item = S>,
-        S: fallible_itertools_consumers::Total,
+        S: crate::Total,
         requires can_next { Self.contract.can_next self }
         requires finite { Self.contract.is_finite self }
         ensures product { AddedDrains S.times Self.contract.steps S.one self result }
         ensures value { OverList Self.contract.steps self (λ l. result ≡ added S.times S.one l) }
     {
         let mut product = S::one();
-        let answer = self.drive(
-            &mut product,
-            &fallible_itertools_consumers::total::MultiplyTurn,
-        );
-        fallible_itertools_consumers::total::total_or_failure(answer, product)
+        let answer = self.drive(&mut product, &crate::total::MultiplyTurn);
+        crate::total::total_or_failure(answer, product)
     }
 
     /// Folds the items, until the closure returns `Done`. It returns that `Done`, or `Continue` of the last value at `Ok(None)`.
@@ -2122,10 +2120,7 @@ pub trait FallibleItertools: FallibleIterator {
     {
         let mut it = Keyed { it: self, f: key };
         let mut state = (HashMap::new(alloc), f);
-        let answer = it.drive(
-            &mut state,
-            &fallible_itertools_consumers::fold_by_key::FoldByKeyTurn { init },
-        );
+        let answer = it.drive(&mut state, &crate::fold_by_key::FoldByKeyTurn { init });
         let (folds, _) = state;
         match answer {
             Ok(None) => Ok(folds),

@@ -1,5 +1,5 @@
 -- What is said of the adjacent items of a list, and of groups.
-use Rattle.std.specs.Prelude.{◌≡◌, Bool, true, false, List, [], ◌∷◌, ◌++◌, Result, Ok, All}
+use Rattle.std.specs.Prelude.{◌≡◌, Bool, true, List, [], ◌∷◌, ◌++◌, Result, Ok, All}
 
 -- P x y holds wherever y stands next after x.
 abbrev pub Adjacent : {X : Type 0} → (X → X → Type 0) → List X → Type 0
@@ -21,7 +21,3 @@ HasKey {K = K} eq h k x = (j : K) × (h x ≡ Ok j) × (eq k j ≡ true)
 abbrev pub IsGroup : {A K E : Type 0} → (K → K → Bool) → (A → Result K E) → K × List A → Type 0
 IsGroup eq h (k, []) = ⊥
 IsGroup eq h (k, x ∷ xs) = (h x ≡ Ok k) × All (HasKey eq h k) xs
-
--- Of two items h lets one go first than which the other is not less.
-abbrev pub LetsLessFirst : {A E : Type 0} → (A → A → Bool) → (A → A → Result Bool E) → Type 0
-LetsLessFirst {A = A} lt h = ((x y : A) → h x y ≡ Ok true → lt y x ≡ false) × ((x y : A) → h x y ≡ Ok false → lt x y ≡ false)

@@ -7,23 +7,15 @@ mod failing;
 mod fuse_at_failure;
 mod grouping;
 mod holding;
-mod interleave;
 mod intersperse;
-mod kmerge_by;
 mod lengths;
 mod listed;
-mod merge;
-mod merge_by;
-mod merge_join_by;
 pub mod nests;
-mod pad_using;
 mod peeking_take_while;
 mod positions;
 mod stop_after;
 mod take_while_inclusive;
 mod unique;
-mod zip_eq;
-mod zip_longest;
 
 pub use copied::{law_hints_back_copied, law_hints_copied, law_hints_listed_copied};
 pub use counting::{
@@ -42,20 +34,10 @@ pub use holding::{
     law_hints_dedup, law_hints_dedup_by, law_hints_dedup_by_key, law_hints_tuple_windows,
     law_hints_tuples, law_hints_with_position, law_positioned,
 };
-pub use interleave::{law_hints_interleave, law_interleaved};
 pub use intersperse::{law_hints_intersperse, law_hints_intersperse_with};
-pub use kmerge_by::{law_hints_kmerge, law_hints_kmerge_by, law_kmerged, law_kmerged_in_order};
-pub use lengths::{
-    law_interspersed, law_interspersed_by, law_tupled, law_windowed, law_zipped_longest,
-};
-pub use merge::{law_hints_merge, law_merged_in_order};
-pub use merge_by::{law_hints_merge_by, law_merged};
-pub use merge_join_by::{law_hints_merge_join_by, law_merge_joined};
-pub use pad_using::{law_hints_pad_using, law_padded};
+pub use lengths::{law_interspersed, law_interspersed_by, law_tupled, law_windowed};
 pub use peeking_take_while::{law_hints_peeking_take_while, law_rest_peeking_take_while};
 pub use positions::law_hints_positions;
 pub use stop_after::law_hints_stop_after;
 pub use take_while_inclusive::{law_hints_take_while_inclusive, law_taken_while_inclusive};
 pub use unique::{law_hints_unique, law_hints_unique_by, law_unique_by_of, law_unique_of};
-pub use zip_eq::law_hints_zip_eq;
-pub use zip_longest::law_hints_zip_longest;

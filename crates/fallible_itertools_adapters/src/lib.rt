@@ -1,4 +1,4 @@
-//! The adapters of `fallible_itertools`, what they share, and their laws. A crate above names `fallible_itertools`.
+//! The adapters of `fallible_itertools` over one source, what they share, and their laws. A crate above names `fallible_itertools`.
 #![tactic(auto)]
 
 pub mod chunk_by;
@@ -14,21 +14,12 @@ pub mod duplicates;
 pub mod err_into;
 pub mod fuse_at_failure;
 pub mod inspect_err;
-pub mod interleave;
 pub mod intersperse;
 pub mod intersperse_with;
-pub mod kmerge;
-pub mod kmerge_by;
 pub mod laws;
-pub mod merge;
-pub mod merge_by;
-pub mod merge_join_by;
-pub mod merge_tree;
 pub mod or_else;
-pub mod pad_using;
 pub mod peeking_take_while;
 pub mod positions;
-mod sides;
 pub mod staging;
 pub mod stop_after;
 pub mod take_while_inclusive;
@@ -37,8 +28,6 @@ pub mod tuples;
 pub mod unique;
 pub mod unique_by;
 pub mod with_position;
-pub mod zip_eq;
-pub mod zip_longest;
 
 pub use chunk_by::ChunkBy;
 pub use chunks::Chunks;
@@ -53,16 +42,9 @@ pub use duplicates::Duplicates;
 pub use err_into::ErrInto;
 pub use fuse_at_failure::FuseAtFailure;
 pub use inspect_err::InspectErr;
-pub use interleave::Interleave;
 pub use intersperse::Intersperse;
 pub use intersperse_with::IntersperseWith;
-pub use kmerge::KMerge;
-pub use kmerge_by::KMergeBy;
-pub use merge::Merge;
-pub use merge_by::MergeBy;
-pub use merge_join_by::MergeJoinBy;
 pub use or_else::OrElse;
-pub use pad_using::PadUsing;
 pub use peeking_take_while::{PeekingNext, PeekingTakeWhile};
 pub use positions::Positions;
 pub use stop_after::StopAfter;
@@ -72,5 +54,3 @@ pub use tuples::Tuples;
 pub use unique::Unique;
 pub use unique_by::UniqueBy;
 pub use with_position::{Position, WithPosition};
-pub use zip_eq::ZipEq;
-pub use zip_longest::{EitherOrBoth, ZipLongest};

@@ -16,30 +16,72 @@ extern crate alloc;
 #[cfg(feature = "std")]
 extern crate std;
 
+#[cfg(feature = "std")]
+mod all_unique;
 mod base;
+mod checked_sum;
+mod cmp_by;
+mod converting;
+#[cfg(feature = "std")]
+mod counts;
+mod double_ended;
+mod equal;
 mod errors;
+mod exactly_one;
 mod fallible_itertools_adapters;
-mod fallible_itertools_consumers;
+mod fallible_itertools_joins;
+mod find_or_last;
+mod find_position;
+#[cfg(feature = "std")]
+mod fold_by_key;
+mod fold_while;
+#[cfg(feature = "std")]
+mod group_map;
+mod is_sorted;
+mod is_sorted_by;
+#[cfg(feature = "alloc")]
+mod join;
+#[cfg(feature = "alloc")]
+mod k_smallest;
+#[cfg(feature = "std")]
+mod keyed;
+mod minmax;
+mod minmax_by;
+mod parted;
+mod partition_map;
+mod position_best;
+#[cfg(feature = "alloc")]
+mod sorted;
+#[cfg(feature = "alloc")]
+mod sorted_unstable;
+#[cfg(feature = "alloc")]
+mod tail;
 mod traits;
+mod until_failure;
 #[cfg(doc)]
 pub mod words;
 
 #[cfg(feature = "alloc")]
 pub use crate::fallible_itertools_adapters::{ChunkBy, Chunks};
 pub use crate::fallible_itertools_adapters::{
-    Coalesce, Copied, Dedup, DedupBy, DedupByKey, DedupByWithCount, DedupWithCount, EitherOrBoth,
-    ErrInto, FuseAtFailure, InspectErr, Interleave, Intersperse, IntersperseWith, Merge, MergeBy,
-    MergeJoinBy, OrElse, PadUsing, PeekingNext, PeekingTakeWhile, Position, Positions, StopAfter,
-    TakeWhileInclusive, TupleWindows, Tuples, WithPosition, ZipEq, ZipLongest,
+    Coalesce, Copied, Dedup, DedupBy, DedupByKey, DedupByWithCount, DedupWithCount, ErrInto,
+    FuseAtFailure, InspectErr, Intersperse, IntersperseWith, OrElse, PeekingNext, PeekingTakeWhile,
+    Position, Positions, StopAfter, TakeWhileInclusive, TupleWindows, Tuples, WithPosition,
 };
 #[cfg(feature = "std")]
 pub use crate::fallible_itertools_adapters::{Duplicates, Unique, UniqueBy};
+pub use crate::fallible_itertools_joins::{
+    EitherOrBoth, Interleave, Merge, MergeBy, MergeJoinBy, PadUsing, ZipEq, ZipLongest,
+};
 #[cfg(feature = "alloc")]
-pub use crate::fallible_itertools_adapters::{
+pub use crate::fallible_itertools_joins::{
     KMerge, KMergeBy,
     kmerge_by::{kmerge, kmerge_by},
 };
-pub use crate::fallible_itertools_consumers::{
-    CheckedTotal, DoubleEndedFallibleItertools, Either, FoldWhile, MinMaxResult, NotOne,
-};
+pub use checked_sum::CheckedTotal;
+pub use double_ended::DoubleEndedFallibleItertools;
+pub use exactly_one::NotOne;
+pub use fold_while::FoldWhile;
+pub use minmax::MinMaxResult;
+pub use partition_map::Either;
 pub use traits::FallibleItertools;

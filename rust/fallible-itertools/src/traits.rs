@@ -1,5 +1,7 @@
 //! The extension trait of every fallible iterator.
 
+#[cfg(feature = "std")]
+use crate::all_unique::{AllUniqueTurn, unique_or_fault};
 use crate::base::drive::Drive;
 use crate::base::drive::whole;
 #[cfg(feature = "alloc")]
@@ -9,48 +11,44 @@ use crate::base::{
     FindTest, FindTurn, ForEachTurn, PositionTurn, ReadEq, Reading, answer_or, answer_or_none,
     found, ordered,
 };
+use crate::checked_sum::{CheckedTotal, ProductTurn, SumTurn, total_or_none};
+use crate::cmp_by::{CmpTurn, EqTurn, compare_by};
+use crate::converting::converted;
+#[cfg(feature = "std")]
+use crate::counts::Tally;
+use crate::equal::{AllEqualTurn, ContainsTurn, UnequalTurn, first_or_both};
+use crate::exactly_one::NotOne;
 #[cfg(feature = "alloc")]
 use crate::fallible_itertools_adapters::{ChunkBy, Chunks};
 use crate::fallible_itertools_adapters::{
     Coalesce, Copied, Dedup, DedupBy, DedupByKey, DedupByWithCount, DedupWithCount, ErrInto,
-    FuseAtFailure, InspectErr, Interleave, Intersperse, IntersperseWith, Merge, MergeBy,
-    MergeJoinBy, OrElse, PadUsing, Positions, StopAfter, TakeWhileInclusive, TupleWindows, Tuples,
-    WithPosition, ZipEq, ZipLongest,
+    FuseAtFailure, InspectErr, Intersperse, IntersperseWith, OrElse, Positions, StopAfter,
+    TakeWhileInclusive, TupleWindows, Tuples, WithPosition,
 };
 #[cfg(feature = "std")]
 use crate::fallible_itertools_adapters::{Duplicates, Unique, UniqueBy};
-#[cfg(feature = "std")]
-use crate::fallible_itertools_consumers::all_unique::{AllUniqueTurn, unique_or_fault};
-use crate::fallible_itertools_consumers::checked_sum::{
-    CheckedTotal, ProductTurn, SumTurn, total_or_none,
+use crate::fallible_itertools_joins::{
+    Interleave, Merge, MergeBy, MergeJoinBy, PadUsing, ZipEq, ZipLongest,
 };
-use crate::fallible_itertools_consumers::cmp_by::{CmpTurn, EqTurn, compare_by};
-use crate::fallible_itertools_consumers::converting::converted;
+use crate::find_or_last::{FindFirstTurn, FindLastTurn, or_kept};
+use crate::find_position::FindPositionTurn;
+use crate::fold_while::{FoldWhile, FoldWhileTurn, while_or_stop};
 #[cfg(feature = "std")]
-use crate::fallible_itertools_consumers::counts::Tally;
-use crate::fallible_itertools_consumers::equal::{
-    AllEqualTurn, ContainsTurn, UnequalTurn, first_or_both,
-};
-use crate::fallible_itertools_consumers::exactly_one::NotOne;
-use crate::fallible_itertools_consumers::find_or_last::{FindFirstTurn, FindLastTurn, or_kept};
-use crate::fallible_itertools_consumers::find_position::FindPositionTurn;
-use crate::fallible_itertools_consumers::fold_while::{FoldWhile, FoldWhileTurn, while_or_stop};
-#[cfg(feature = "std")]
-use crate::fallible_itertools_consumers::group_map::GroupMap;
-use crate::fallible_itertools_consumers::is_sorted::{InOrderTurn, SortedTurn};
-use crate::fallible_itertools_consumers::is_sorted_by::SortedByTurn;
+use crate::group_map::GroupMap;
+use crate::is_sorted::{InOrderTurn, SortedTurn};
+use crate::is_sorted_by::SortedByTurn;
 #[cfg(feature = "alloc")]
-use crate::fallible_itertools_consumers::join::JoinTurn;
+use crate::join::JoinTurn;
 #[cfg(feature = "std")]
-use crate::fallible_itertools_consumers::keyed::Keyed;
-use crate::fallible_itertools_consumers::minmax::{MinMaxResult, MinMaxTurn, lesser_first};
-use crate::fallible_itertools_consumers::minmax_by::{find_both_by, find_both_by_key};
-use crate::fallible_itertools_consumers::parted::Parted;
-use crate::fallible_itertools_consumers::partition_map::Either;
-use crate::fallible_itertools_consumers::position_best::{first_is_less, place_alone};
-use crate::fallible_itertools_consumers::until_failure::PushTurn;
+use crate::keyed::Keyed;
+use crate::minmax::{MinMaxResult, MinMaxTurn, lesser_first};
+use crate::minmax_by::{find_both_by, find_both_by_key};
+use crate::parted::Parted;
+use crate::partition_map::Either;
+use crate::position_best::{first_is_less, place_alone};
+use crate::until_failure::PushTurn;
 #[cfg(feature = "alloc")]
-use crate::fallible_itertools_consumers::{k_smallest, sorted, sorted_unstable, tail};
+use crate::{k_smallest, sorted, sorted_unstable, tail};
 #[cfg(feature = "alloc")]
 use alloc::collections::VecDeque;
 #[cfg(feature = "alloc")]
@@ -2427,10 +2425,7 @@ pub trait FallibleItertools: FallibleIterator + Sized {
     {
         let mut it = Keyed { it: self, f: key };
         let mut state = (HashMap::new(), f);
-        let answer = it.fold_by(
-            &mut state,
-            &crate::fallible_itertools_consumers::fold_by_key::FoldByKeyTurn { init },
-        );
+        let answer = it.fold_by(&mut state, &crate::fold_by_key::FoldByKeyTurn { init });
         let (folds, _) = state;
         match answer {
             Ok(None) => Ok(folds),

@@ -1,12 +1,11 @@
 // The laws of the list words: how long what they make is, and what stands at each position.
-ghost use Rattle.std.specs.Prelude.{◌≡◌, ℕ, suc, ◌+◌, ◌-◌, ◌*◌, ◌/◌, ◌++◌, [], ◌∷◌, List, Ok, Err, Option, Result, IsPermutation, drop, length, max, option_map, take, zip};
+ghost use Rattle.std.specs.Prelude.{◌≡◌, ℕ, suc, ◌+◌, ◌-◌, ◌*◌, ◌/◌, [], ◌∷◌, List, Ok, Err, Result, drop, length, option_map, take, zip};
 ghost use Rattle.std.specs.List.{flat_map};
 ghost use Rattle.fallible_iterator.specs.BothEnds.{items_listed, failures_listed};
 ghost use Rattle.fallible_iterator.specs.Lists.{nth_of, on_value};
 ghost use Rattle.fallible_itertools_adapters.specs.Intersperse.{interspersed, interspersed_by};
 ghost use Rattle.fallible_itertools_adapters.specs.TupleWindows.{windowed};
 ghost use Rattle.fallible_itertools_adapters.specs.Tuples.{tupled};
-ghost use Rattle.fallible_itertools_adapters.specs.ZipLongest.{longest, zipped_longest};
 
 /// `interspersed` makes 2n - 1 items of n, and none of none. The items stand at the even positions, and the separator at the odd ones between them. The failures are the list's.
 pub fn law_interspersed<T, E>()
@@ -56,17 +55,4 @@ pub fn law_tupled<T, E>()
         ≡ take (2 * (length (items_listed l) / 2)) (items_listed l) }
     ensures failures { (l : List (Result T E))
         → failures_listed (tupled l) ≡ failures_listed l }
-{}
-
-/// `zipped_longest` makes as many items as the longer list has. Each position before a failure has the items of both lists, or the one that is there. The failures are those of both lists.
-pub fn law_zipped_longest<T, U, E>()
-    ensures length { (a : List (Result T E)) (b : List (Result U E))
-        → length (items_listed (zipped_longest a b))
-        ≡ max (length (items_listed a)) (length (items_listed b)) }
-    ensures places { (k : ℕ) (a : List (Result T E)) (b : List (Result U E))
-        (x : Option T) (y : Option U) → nth_of k a ≡ Ok x → nth_of k b ≡ Ok y
-        → nth_of k (zipped_longest a b) ≡ Ok (longest x y) }
-    ensures failures { (a : List (Result T E)) (b : List (Result U E))
-        → IsPermutation (failures_listed a ++ failures_listed b)
-        (failures_listed (zipped_longest a b)) }
 {}

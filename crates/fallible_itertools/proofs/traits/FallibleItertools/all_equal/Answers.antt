@@ -3,8 +3,8 @@ use Rattle.std.proofs.Common.{true}
 use Rattle.fallible_iterator.specs.Searching.{all_pick}
 use Rattle.fallible_iterator.specs.Laws.Contract.{stays_run}
 use Rattle.fallible_iterator.proofs.Lemmas.Searching.{search_drains_of_drive}
-use Rattle.fallible_itertools_consumers.specs.Equal.{FirstCall}
-use Rattle.fallible_itertools_consumers.proofs.Lemmas.Equal.{drain_is_equal_to_first, drain_leaves_rest_unequal}
+use Rattle.fallible_itertools.specs.Equal.{FirstCall}
+use Rattle.fallible_itertools.proofs.Lemmas.Equal.{drain_is_equal_to_first, drain_leaves_rest_unequal}
 use Rattle.fallible_itertools.proofs.traits.FallibleItertools.all_equal.Goals as goal
 
 pub returns-clause-searched : goal.returns-clause-searched

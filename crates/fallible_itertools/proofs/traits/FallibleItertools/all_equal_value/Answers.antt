@@ -2,8 +2,8 @@
 use Rattle.std.proofs.Common.{None, sym, ◌∙◌}
 use Rattle.fallible_iterator.specs.Laws.Contract.{stays_run}
 use Rattle.fallible_iterator.proofs.Lemmas.Searching.{search_drains_of_drive}
-use Rattle.fallible_itertools_consumers.specs.Equal.{FirstCall, unequal_pick}
-use Rattle.fallible_itertools_consumers.proofs.Lemmas.Equal.{value_or_both_is_equal_value_of_lists, lists_rest_unequal_where_found, none_unequal_is_not_true_where_differs, none_unequal_is_not_true_where_fails}
+use Rattle.fallible_itertools.specs.Equal.{FirstCall, unequal_pick}
+use Rattle.fallible_itertools.proofs.Lemmas.Equal.{value_or_both_is_equal_value_of_lists, lists_rest_unequal_where_found, none_unequal_is_not_true_where_differs, none_unequal_is_not_true_where_fails}
 use Rattle.fallible_itertools.proofs.traits.FallibleItertools.all_equal_value.Goals as goal
 
 pub returns-clause-searched : goal.returns-clause-searched

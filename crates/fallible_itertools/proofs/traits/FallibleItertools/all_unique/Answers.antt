@@ -1,6 +1,6 @@
 -- The fold whose state is the set of the items so far.
 use Rattle.fallible_iterator.specs.Laws.Contract.{stays_run}
-use Rattle.fallible_itertools_consumers.proofs.Lemmas.AllUnique.{all_unique_drains_by_fold, all_unique_of_lists, lists_rest_repeated}
+use Rattle.fallible_itertools.proofs.Lemmas.AllUnique.{all_unique_drains_by_fold, all_unique_of_lists, lists_rest_repeated}
 use Rattle.fallible_itertools.proofs.traits.FallibleItertools.all_unique.Goals as goal
 
 pub returns-clause-searched : goal.returns-clause-searched

@@ -1,5 +1,5 @@
 -- The fold that stops where the product doesn't fit is the product.
-use Rattle.fallible_itertools_consumers.proofs.Lemmas.CheckedSum.{total_drains_by_fold, totalled_of_lists}
+use Rattle.fallible_itertools.proofs.Lemmas.CheckedSum.{total_drains_by_fold, totalled_of_lists}
 use Rattle.fallible_itertools.proofs.traits.FallibleItertools.checked_product.Goals as goal
 
 pub returns-clause-product : goal.returns-clause-product

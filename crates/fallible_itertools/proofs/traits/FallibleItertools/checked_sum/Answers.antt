@@ -1,5 +1,5 @@
 -- The fold that stops where the sum doesn't fit is the sum.
-use Rattle.fallible_itertools_consumers.proofs.Lemmas.CheckedSum.{total_drains_by_fold, totalled_of_lists}
+use Rattle.fallible_itertools.proofs.Lemmas.CheckedSum.{total_drains_by_fold, totalled_of_lists}
 use Rattle.fallible_itertools.proofs.traits.FallibleItertools.checked_sum.Goals as goal
 
 pub returns-clause-sum : goal.returns-clause-sum

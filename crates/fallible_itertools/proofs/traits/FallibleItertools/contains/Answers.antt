@@ -3,8 +3,8 @@ use Rattle.std.proofs.Common.{false}
 use Rattle.fallible_iterator.specs.Searching.{any_pick}
 use Rattle.fallible_iterator.specs.Laws.Contract.{stays_run}
 use Rattle.fallible_iterator.proofs.Lemmas.Searching.{search_drains_of_drive}
-use Rattle.fallible_itertools_consumers.specs.Equal.{TestCall}
-use Rattle.fallible_itertools_consumers.proofs.Lemmas.Equal.{contained_of_search_drains, lists_rest_contained}
+use Rattle.fallible_itertools.specs.Equal.{TestCall}
+use Rattle.fallible_itertools.proofs.Lemmas.Equal.{contained_of_search_drains, lists_rest_contained}
 use Rattle.fallible_itertools.proofs.traits.FallibleItertools.contains.Goals as goal
 
 pub returns-clause-searched : goal.returns-clause-searched

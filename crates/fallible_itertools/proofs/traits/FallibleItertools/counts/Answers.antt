@@ -2,8 +2,8 @@
 use Rattle.std.specs.Prelude.{◌≡◌, Ok, Err, None}
 use Rattle.std.specs.HashMap.{get, spare}
 use Rattle.fallible_iterator.proofs.Lemmas.Lists.Drawn.{collected_of_lists, made_of_collected}
-use Rattle.fallible_itertools_consumers.specs.Counts.{IsCountsOf}
-use Rattle.fallible_itertools_consumers.proofs.Lemmas.Counts.{collects_all_counted, collects_fault_of_counts}
+use Rattle.fallible_itertools.specs.Counts.{IsCountsOf}
+use Rattle.fallible_itertools.proofs.Lemmas.Counts.{collects_all_counted, collects_fault_of_counts}
 use Rattle.fallible_itertools.proofs.traits.FallibleItertools.counts.Goals as goal
 
 pub returns-in-Ok-clause-collects : goal.returns-in-Ok-clause-collects

@@ -1,6 +1,6 @@
 -- The fold whose state is the first item and the predicate is the search, or else the first item of all.
 use Rattle.fallible_iterator.specs.Closures.{call_by_reference}
-use Rattle.fallible_itertools_consumers.proofs.Lemmas.FindOrLast.{callable_driving_keeping_first, found_or_first_by_fold, found_or_first_of_lists}
+use Rattle.fallible_itertools.proofs.Lemmas.FindOrLast.{callable_driving_keeping_first, found_or_first_by_fold, found_or_first_of_lists}
 use Rattle.fallible_itertools.proofs.traits.FallibleItertools.find_or_first.Goals as goal
 
 pub drive-answer-requires-clause-callable : goal.drive-answer-requires-clause-callable

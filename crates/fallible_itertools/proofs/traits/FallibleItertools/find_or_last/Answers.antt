@@ -1,6 +1,6 @@
 -- The fold whose state is the last item and the predicate is the search, or else the last item.
 use Rattle.fallible_iterator.specs.Closures.{call_by_reference}
-use Rattle.fallible_itertools_consumers.proofs.Lemmas.FindOrLast.{callable_driving_keeping_last, found_or_last_by_fold, found_or_last_of_lists}
+use Rattle.fallible_itertools.proofs.Lemmas.FindOrLast.{callable_driving_keeping_last, found_or_last_by_fold, found_or_last_of_lists}
 use Rattle.fallible_itertools.proofs.traits.FallibleItertools.find_or_last.Goals as goal
 
 pub drive-answer-requires-clause-callable : goal.drive-answer-requires-clause-callable

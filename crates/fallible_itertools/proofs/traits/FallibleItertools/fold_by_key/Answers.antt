@@ -4,9 +4,9 @@ use Rattle.fallible_iterator.specs.Folds.{call_with, takes_with}
 use Rattle.fallible_iterator.specs.Fault.TheVariants.{Source}
 use Rattle.fallible_iterator.proofs.Lemmas.Folding.{holds_at_each_turn_of_held}
 use Rattle.fallible_iterator.proofs.Lemmas.Lists.Drawn.{made_of_collected, collected_is_failure}
-use Rattle.fallible_itertools_consumers.specs.FoldByKey.{IsKeyFoldOf, checked_folds}
-use Rattle.fallible_itertools_consumers.specs.Keyed.{keyed_parts, keyed_contract, keyed}
-use Rattle.fallible_itertools_consumers.proofs.Lemmas.FoldByKey.{hashed_map_of_none, callable_driving_by_key, folds_by_key_ended, folds_by_key_failed, folds_by_key_stopped, folded_by_key_of_keyed}
+use Rattle.fallible_itertools.specs.FoldByKey.{IsKeyFoldOf, checked_folds}
+use Rattle.fallible_itertools.specs.Keyed.{keyed_parts, keyed_contract, keyed}
+use Rattle.fallible_itertools.proofs.Lemmas.FoldByKey.{hashed_map_of_none, callable_driving_by_key, folds_by_key_ended, folds_by_key_failed, folds_by_key_stopped, folded_by_key_of_keyed}
 use Rattle.fallible_itertools.proofs.traits.FallibleItertools.fold_by_key.Goals as goal
 
 pub drive-answer-requires-clause-callable : goal.drive-answer-requires-clause-callable

@@ -2,8 +2,8 @@
 use Rattle.fallible_iterator.specs.Folds.{call_with}
 use Rattle.fallible_iterator.specs.Laws.Contract.{stays_run}
 use Rattle.fallible_iterator.proofs.Lemmas.Folds.{callable_driving_slot}
-use Rattle.fallible_itertools_consumers.specs.FoldWhile.{WhileCall}
-use Rattle.fallible_itertools_consumers.proofs.Lemmas.FoldWhile.{is_some_value_left, fold_while_drains_by_fold, folded_while_of_lists, lists_rest_while_done, lists_rest_while_failed}
+use Rattle.fallible_itertools.specs.FoldWhile.{WhileCall}
+use Rattle.fallible_itertools.proofs.Lemmas.FoldWhile.{is_some_value_left, fold_while_drains_by_fold, folded_while_of_lists, lists_rest_while_done, lists_rest_while_failed}
 use Rattle.fallible_itertools.proofs.traits.FallibleItertools.fold_while.Goals as goal
 
 pub drive-answer-requires-clause-callable : goal.drive-answer-requires-clause-callable

@@ -3,8 +3,8 @@ use Rattle.std.specs.Prelude.{◌+◌}
 use Rattle.std.proofs.Common.{sym, subst, inr, arith}
 use Rattle.fallible_iterator.specs.Contract.{AtMost}
 use Rattle.fallible_iterator.specs.Cutting.Fuse.{fuse_contract, fuse_source}
-use Rattle.fallible_itertools_adapters.specs.Interleave.{interleave_contract}
-use Rattle.fallible_itertools_adapters.proofs.Lemmas.Interleave.{lists_interleaved, lists_for_good_interleaved}
+use Rattle.fallible_itertools_joins.specs.Interleave.{interleave_contract}
+use Rattle.fallible_itertools_joins.proofs.Lemmas.Interleave.{lists_interleaved, lists_for_good_interleaved}
 use Rattle.fallible_itertools.proofs.traits.FallibleItertools.interleave.Goals as goal
 
 pub returns-clause-lists : goal.returns-clause-lists

@@ -2,8 +2,8 @@
 use Rattle.std.proofs.Common.{true}
 use Rattle.fallible_iterator.specs.Searching.{all_pick}
 use Rattle.fallible_iterator.proofs.Lemmas.Searching.{search_drains_of_drive}
-use Rattle.fallible_itertools_consumers.specs.IsSorted.{ItselfCall, OrderCall}
-use Rattle.fallible_itertools_consumers.proofs.Lemmas.IsSorted.{drain_is_in_order}
+use Rattle.fallible_itertools.specs.IsSorted.{ItselfCall, OrderCall}
+use Rattle.fallible_itertools.proofs.Lemmas.IsSorted.{drain_is_in_order}
 use Rattle.fallible_itertools.proofs.traits.FallibleItertools.is_sorted.Goals as goal
 
 pub returns-clause-sorted : goal.returns-clause-sorted

@@ -3,8 +3,8 @@ use Rattle.std.proofs.Common.{true}
 use Rattle.fallible_iterator.specs.Picking.{call_at_two}
 use Rattle.fallible_iterator.specs.Searching.{all_pick}
 use Rattle.fallible_iterator.proofs.Lemmas.Searching.{search_drains_of_drive}
-use Rattle.fallible_itertools_consumers.specs.IsSortedBy.{PairCall}
-use Rattle.fallible_itertools_consumers.proofs.Lemmas.IsSortedBy.{in_order_by_of_lists}
+use Rattle.fallible_itertools.specs.IsSortedBy.{PairCall}
+use Rattle.fallible_itertools.proofs.Lemmas.IsSortedBy.{in_order_by_of_lists}
 use Rattle.fallible_itertools.proofs.traits.FallibleItertools.is_sorted_by.Goals as goal
 
 pub returns-clause-sorted : goal.returns-clause-sorted

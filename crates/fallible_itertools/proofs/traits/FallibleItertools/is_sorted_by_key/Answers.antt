@@ -3,8 +3,8 @@ use Rattle.std.proofs.Common.{true}
 use Rattle.fallible_iterator.specs.Closures.{call_by_value}
 use Rattle.fallible_iterator.specs.Searching.{all_pick}
 use Rattle.fallible_iterator.proofs.Lemmas.Searching.{search_drains_of_drive}
-use Rattle.fallible_itertools_consumers.specs.IsSorted.{OrderCall}
-use Rattle.fallible_itertools_consumers.proofs.Lemmas.IsSorted.{in_order_by_key_of_lists}
+use Rattle.fallible_itertools.specs.IsSorted.{OrderCall}
+use Rattle.fallible_itertools.proofs.Lemmas.IsSorted.{in_order_by_key_of_lists}
 use Rattle.fallible_itertools.proofs.traits.FallibleItertools.is_sorted_by_key.Goals as goal
 
 pub returns-clause-sorted : goal.returns-clause-sorted

@@ -2,8 +2,8 @@
 use Rattle.std.specs.Prelude.{Ok, Err}
 use Rattle.std.proofs.Common.{inr, refl}
 use Rattle.fallible_iterator.proofs.Lemmas.Lists.Drawn.{collected_of_lists, made_of_collected, collected_is_failure, collected_as_refused}
-use Rattle.fallible_itertools_consumers.specs.Join.{JoinedAs}
-use Rattle.fallible_itertools_consumers.proofs.Lemmas.Join.{collects_all_joined, fails_with_join, refuses_item_join_refused}
+use Rattle.fallible_itertools.specs.Join.{JoinedAs}
+use Rattle.fallible_itertools.proofs.Lemmas.Join.{collects_all_joined, fails_with_join, refuses_item_join_refused}
 use Rattle.fallible_itertools.proofs.traits.FallibleItertools.join.Goals as goal
 use Rattle.fallible_iterator.specs.Fault.TheVariants.{Source}
 

@@ -2,8 +2,8 @@
 use Rattle.std.specs.Prelude.{Ok, Err}
 use Rattle.std.proofs.Common.{inr}
 use Rattle.fallible_iterator.proofs.Lemmas.Lists.Drawn.{collected_of_lists, made_of_collected, collected_is_failure, collected_as_refused}
-use Rattle.fallible_itertools_consumers.specs.KSmallest.{IsSmallestOf, SmallestRefuses}
-use Rattle.fallible_itertools_consumers.proofs.Lemmas.KSmallestFolds.{collects_all_smallest, fails_with_smallest, refuses_item_smallest}
+use Rattle.fallible_itertools.specs.KSmallest.{IsSmallestOf, SmallestRefuses}
+use Rattle.fallible_itertools.proofs.Lemmas.KSmallestFolds.{collects_all_smallest, fails_with_smallest, refuses_item_smallest}
 use Rattle.fallible_itertools.proofs.traits.FallibleItertools.k_smallest.Goals as goal
 use Rattle.fallible_iterator.specs.Fault.TheVariants.{Source}
 

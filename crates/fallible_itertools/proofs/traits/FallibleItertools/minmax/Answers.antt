@@ -2,7 +2,7 @@
 use Rattle.std.proofs.Common.{refl}
 use Rattle.std.specs.declared.convert.Infallible.{Infallible}
 use Rattle.fallible_iterator.proofs.Lemmas.Folds.{driven_by_item_first, driven_end, driven_failure}
-use Rattle.fallible_itertools_consumers.proofs.Lemmas.MinMax.{driven_widens_to_after_two_draws, min_max_drains_to_end, min_max_drains_to_failure, minmaxed_of_lists}
+use Rattle.fallible_itertools.proofs.Lemmas.MinMax.{driven_widens_to_after_two_draws, min_max_drains_to_end, min_max_drains_to_failure, minmaxed_of_lists}
 use Rattle.fallible_itertools.proofs.traits.FallibleItertools.minmax.Goals as goal
 
 pub returns-in-Ok-None-clause-minmaxed : goal.returns-in-Ok-None-clause-minmaxed

@@ -1,8 +1,8 @@
 -- What the source lists beside the indices, by what the closure returns for those alone.
 use Rattle.std.proofs.Common.{sym, subst}
 use Rattle.fallible_iterator.specs.Closures.{IsCallable}
-use Rattle.fallible_itertools_adapters.specs.PadUsing.{beside_index_contract, pad_call, pad_takes}
-use Rattle.fallible_itertools_adapters.proofs.Lemmas.PadUsing.{is_callable_pad, lists_for_good_padded, lists_padded}
+use Rattle.fallible_itertools_joins.specs.PadUsing.{beside_index_contract, pad_call, pad_takes}
+use Rattle.fallible_itertools_joins.proofs.Lemmas.PadUsing.{is_callable_pad, lists_for_good_padded, lists_padded}
 use Rattle.fallible_itertools.proofs.traits.FallibleItertools.pad_using.Goals as goal
 
 pub returns-clause-callable : goal.returns-clause-callable

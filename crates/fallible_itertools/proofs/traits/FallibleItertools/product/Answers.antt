@@ -1,5 +1,5 @@
 -- The fold whose state is the total multiplies all items.
-use Rattle.fallible_itertools_consumers.proofs.Lemmas.Total.{added_drains_by_fold, added_of_lists}
+use Rattle.fallible_itertools.proofs.Lemmas.Total.{added_drains_by_fold, added_of_lists}
 use Rattle.fallible_itertools.proofs.traits.FallibleItertools.product.Goals as goal
 
 pub returns-clause-product : goal.returns-clause-product

@@ -1,7 +1,7 @@
 -- What `collect` returned, sorted.
 use Rattle.fallible_iterator.proofs.Lemmas.Lists.Drawn.{collected_is_failure}
-use Rattle.fallible_itertools_consumers.specs.Sorted.{IsSortedOf}
-use Rattle.fallible_itertools_consumers.proofs.Lemmas.Sorted.{made_of_collected_where_ok, sorted_of_collected}
+use Rattle.fallible_itertools.specs.Sorted.{IsSortedOf}
+use Rattle.fallible_itertools.proofs.Lemmas.Sorted.{made_of_collected_where_ok, sorted_of_collected}
 use Rattle.fallible_itertools.proofs.traits.FallibleItertools.sorted.Goals as goal
 
 pub returns-clause-collects : goal.returns-clause-collects

@@ -1,8 +1,8 @@
 -- What `collect` returned, sorted in place.
 use Rattle.fallible_iterator.proofs.Lemmas.Lists.Drawn.{collected_is_failure}
-use Rattle.fallible_itertools_consumers.specs.SortedUnstable.{HasItemsInOrder}
-use Rattle.fallible_itertools_consumers.proofs.Lemmas.Sorted.{made_of_collected_where_ok}
-use Rattle.fallible_itertools_consumers.proofs.Lemmas.SortedUnstable.{collected_where_sorted_in_place}
+use Rattle.fallible_itertools.specs.SortedUnstable.{HasItemsInOrder}
+use Rattle.fallible_itertools.proofs.Lemmas.Sorted.{made_of_collected_where_ok}
+use Rattle.fallible_itertools.proofs.Lemmas.SortedUnstable.{collected_where_sorted_in_place}
 use Rattle.fallible_itertools.proofs.traits.FallibleItertools.sorted_unstable.Goals as goal
 
 pub returns-clause-collects : goal.returns-clause-collects

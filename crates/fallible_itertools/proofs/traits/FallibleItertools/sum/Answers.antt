@@ -1,5 +1,5 @@
 -- The fold whose state is the total adds all items.
-use Rattle.fallible_itertools_consumers.proofs.Lemmas.Total.{added_drains_by_fold, added_of_lists}
+use Rattle.fallible_itertools.proofs.Lemmas.Total.{added_drains_by_fold, added_of_lists}
 use Rattle.fallible_itertools.proofs.traits.FallibleItertools.sum.Goals as goal
 
 pub returns-clause-sum : goal.returns-clause-sum

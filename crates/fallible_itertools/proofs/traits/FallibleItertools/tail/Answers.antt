@@ -3,8 +3,8 @@ use Rattle.std.specs.Prelude.{Ok, Err}
 use Rattle.std.specs.VecDeque.{deque_capacity, deque_items, deque_len}
 use Rattle.std.proofs.Common.{inr}
 use Rattle.fallible_iterator.proofs.Lemmas.Lists.Drawn.{collected_of_lists, made_of_collected, collected_is_failure, collected_as_refused}
-use Rattle.fallible_itertools_consumers.specs.Tail.{IsTailOf, TailRefuses}
-use Rattle.fallible_itertools_consumers.proofs.Lemmas.Tail.{collects_all_tail, fails_with_tail, refuses_item_tail}
+use Rattle.fallible_itertools.specs.Tail.{IsTailOf, TailRefuses}
+use Rattle.fallible_itertools.proofs.Lemmas.Tail.{collects_all_tail, fails_with_tail, refuses_item_tail}
 use Rattle.fallible_itertools.proofs.traits.FallibleItertools.tail.Goals as goal
 use Rattle.fallible_iterator.specs.Fault.TheVariants.{Source}
 

@@ -1,5 +1,5 @@
 // changed: std's own, of all that it is of
-// proved: 3694c9f3
+// proved: 4c33b6c8
 fn sum<S>(self) -> Result<S, Self::Error>
 where
     S: core::iter::Sum<Self::Item>,

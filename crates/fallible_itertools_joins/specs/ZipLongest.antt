@@ -1,0 +1,94 @@
+-- `ZipLongest`: the items of two sources place by place, up to the end of the longer one.
+use Rattle.std.specs.Prelude.{ℕ, max, Option, Some, None, ◌≡◌, List, [], ◌∷◌, map, Ok, Err, Result, ⊤}
+use Rattle.std.specs.declared.cmp.Ordering.TheVariants.{Equal}
+use Rattle.fallible_iterator.specs.Traces.{Answered}
+use Rattle.fallible_iterator.specs.Contract.{Contract}
+use Rattle.fallible_iterator.specs.Fuse.{Fuse}
+use Rattle.fallible_itertools_joins.specs.Sides.{Join, OfEach, Rule, SidesTrace, fused_contract, fused_steps, sides_contract, holding_parts, join_rule, taken_among}
+use Rattle.fallible_itertools_joins.specs.declared.zip_longest.EitherOrBoth.{EitherOrBoth}
+use Rattle.fallible_itertools_joins.specs.declared.zip_longest.EitherOrBoth.TheVariants.{Both, Left, Right}
+use Rattle.fallible_itertools_joins.specs.declared.zip_longest.ZipLongest.{ZipLongest}
+
+-- the left with what is held of it, and the right, of which nothing is held, both fused; it has no closure
+abbrev pub zip_longest_parts : {T U A E B : Type 0} → ZipLongest T U A E → (Fuse T × Option A) × (Fuse U × Option B) × Unit {0}
+zip_longest_parts s = (holding_parts s.left, (s.right, None), tt)
+
+-- the items of both, or the item of the one side that has one, if there is one
+abbrev pub longest : {A B : Type 0} → Option A → Option B → Option (EitherOrBoth A B)
+longest (Some x) (Some y) = Some (Both x y)
+longest (Some x) None = Some (Left x)
+longest None (Some y) = Some (Right y)
+longest None None = None
+
+-- the item of the left, if there is one
+abbrev pub left_of : {A B : Type 0} → EitherOrBoth A B → Option A
+left_of (Both x y) = Some x
+left_of (Left x) = Some x
+left_of (Right y) = None
+
+-- the item of the right, if there is one
+abbrev pub right_of : {A B : Type 0} → EitherOrBoth A B → Option B
+right_of (Both x y) = Some y
+right_of (Left x) = None
+right_of (Right y) = Some y
+
+-- the items, if there is one of each
+abbrev pub both_of : {A B : Type 0} → EitherOrBoth A B → Option (A × B)
+both_of (Both x y) = Some (x, y)
+both_of (Left x) = None
+both_of (Right y) = None
+
+-- the item of the left, if there is none of the right
+abbrev pub only_left : {A B : Type 0} → EitherOrBoth A B → Option A
+only_left (Both x y) = None
+only_left (Left x) = Some x
+only_left (Right y) = None
+
+-- the item of the right, if there is none of the left
+abbrev pub only_right : {A B : Type 0} → EitherOrBoth A B → Option B
+only_right (Both x y) = None
+only_right (Left x) = None
+only_right (Right y) = Some y
+
+-- both items are taken, without a call
+abbrev pub longest_join : {A B E : Type 0} → Join A B (EitherOrBoth A B) E (Unit {0}) (Unit {0})
+longest_join = record { says = λ f x y v g. v ≡ Ok tt; order = λ k. Equal; makes = λ t. t; askable = λ P Q f. ⊤; gives = OfEach; refuses = λ P Q f e. ⊥ }
+
+-- The rule of `ZipLongest`: that of `MergeJoinBy`, where both items are taken without a call.
+abbrev pub longest_rule : {A B E : Type 0} → Rule A B (EitherOrBoth A B) E (Unit {0}) (Option (Result (Unit {0}) E))
+longest_rule = join_rule longest_join
+
+-- `ZipLongest`: the trace of `MergeJoinBy`, where both items are yielded together without a call.
+abbrev pub ZipLongestTrace : {S U A B E : Type 0} → (S → Answered A E → S → Type 0) → (U → Answered B E → U → Type 0) → (Fuse S × Option A) × (Fuse U × Option B) × Unit {0} → List (Answered (EitherOrBoth A B) E) → (Fuse S × Option A) × (Fuse U × Option B) × Unit {0} → Type 0
+ZipLongestTrace steps others p trace q = SidesTrace (fused_steps steps) (fused_steps others) longest_rule p trace q
+
+-- the greater of two upper bounds, where both are known
+abbrev pub greater_bound : Option ℕ → Option ℕ → Option ℕ
+greater_bound (Some x) (Some y) = Some (max x y)
+greater_bound (Some x) None = None
+greater_bound None y = None
+
+-- the greater of each bound
+abbrev pub hint_greater : ℕ × Option ℕ → ℕ × Option ℕ → ℕ × Option ℕ
+hint_greater g k = (max g.0 k.0, greater_bound g.1 k.1)
+
+-- `ZipLongest`'s contract: its hint has the greater bounds of both sides.
+abbrev pub zip_longest_contract : {S U A B E : Type 0} → Contract S A E → Contract U B E → Contract ((Fuse S × Option A) × (Fuse U × Option B) × Unit {0}) (EitherOrBoth A B) E
+zip_longest_contract left right = sides_contract (fused_contract left) (fused_contract right) longest_rule hint_greater
+
+-- ---- what it lists
+
+-- the first list's item x beside the first item of b: the failures of b before that item, which x outlives, then both, or x alone at the end of b; and then what `rest` makes of what is left of b
+abbrev pub beside_next : {A B E : Type 0} → A → (List (Result B E) → List (Result (EitherOrBoth A B) E)) → List (Result B E) → List (Result (EitherOrBoth A B) E)
+beside_next x rest b = taken_among {K = Unit {0}} (λ k. Equal) (λ t. t) (λ x y. Ok tt) x rest b
+
+-- each item of a list alone, as the right's
+abbrev pub right_alone : {A B E : Type 0} → Result B E → Result (EitherOrBoth A B) E
+right_alone (Ok y) = Ok (Right y)
+right_alone (Err e) = Err e
+
+-- the items of both lists place by place, and those of the longer one alone; a failure of either stands where it is met, and an item of the first list beside a failure of the second one stands beside the next item of it
+unfoldable pub zipped_longest : {A B E : Type 0} → List (Result A E) → List (Result B E) → List (Result (EitherOrBoth A B) E)
+zipped_longest [] b = map right_alone b
+zipped_longest (Err e ∷ a) b = Err e ∷ zipped_longest a b
+zipped_longest (Ok x ∷ a) b = beside_next x (λ c. zipped_longest a c) b
