@@ -28,6 +28,7 @@ PARTS = {
 }
 # Those that say a part of a contract.
 OF_CONTRACTS = {"Chain": ["chain_bound"], "Flatten": ["FlattenNumber"]}
+PARTS_ARE = re.compile(r" The parts are [^.]*\.?")
 # How a sentence begins that can't be read by itself.
 FRAGMENT = re.compile(r"(?:with|which|by|and) ")
 
@@ -50,9 +51,9 @@ def without_type(name, sentence):
 
 
 def cell(name, words):
-    """The sentences of words, of which the first goes without its name if it is of the type."""
+    """The sentences of words, of which the first goes without its name if it is of the type. INDEX tells what its parts are."""
     said = []
-    for place, (word, sentence) in enumerate(words):
+    for place, (word, sentence) in enumerate((word, PARTS_ARE.sub("", sentence)) for word, sentence in words):
         own = place == 0 and (f"`{name}`" in sentence.split(".")[0] or not sentence.startswith(("A ", "The ")))
         shown = without_type(name, sentence).rstrip(".")
         said += [f"{shown}." if own else f"`{word}`: {shown}."] if shown else []
