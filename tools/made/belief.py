@@ -50,11 +50,15 @@ class Words:
                         self.by_name.setdefault(word, file)
 
     def place(self, name, file):
-        """The file of a word that another file names, or none if it is not the library's."""
+        """The file of a word that another file names, or none if it is not the library's. A file that hands it on is not its file."""
         if name in self.of_files.get(file, {}):
             return file
         found = self.imports.get(file, {}).get(name)
-        return found if name in self.of_files.get(found, {}) else None
+        if found is None or name in self.of_files.get(found, {}):
+            return found
+        crate, _, place = found.partition("/")
+        handed = [f"{below}/{place}" for below in LIBRARY if name in self.of_files.get(f"{below}/{place}", {})]
+        return next(iter([*handed, *filter(None, [self.by_name.get(name)])]), None) if crate in LIBRARY else None
 
     def named(self, word, file):
         """The words that a word's definition names, each with its file."""

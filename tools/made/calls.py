@@ -134,7 +134,9 @@ def table(name, crates, of_types):
     rows = []
     for path in (crates / file for file in files):
         found = code.functions(path) if path.is_file() else []
-        rows += [line(Row(function), wanted, of_types) for function in found if kind(function, of_types) in kinds]
+        of_kind = [Row(function) for function in found if kind(function, of_types) in kinds]
+        # a call that makes no iterator and states nothing of a list has no line
+        rows += [line(row, wanted, of_types) for row in of_kind if wanted == "adapter" or row.values or row.left]
     return [HEADS[wanted], *rows]
 
 

@@ -28,6 +28,9 @@ PARTS = {
 }
 # Those that say a part of a contract.
 OF_CONTRACTS = {"Chain": ["chain_bound"], "Flatten": ["FlattenNumber"]}
+# How a contract's sentence ends with its hint.
+HINTED = re.compile(r"(?:^|, and )(?:its hint (?:has|is) |has the source's hint).*")
+PARTS_ARE = re.compile(r" The parts are [^.]*\.?")
 # How a sentence begins that can't be read by itself.
 FRAGMENT = re.compile(r"(?:with|which|by|and) ")
 
@@ -44,15 +47,15 @@ def table_of(crate, place, types):
 
 
 def without_type(name, sentence):
-    """A sentence without the name of the type that it begins with, or of the contract that it is of."""
+    """A sentence without the name of the type that it begins with, or of the contract that it is of, and without its hint, which CALLING has."""
     said = re.sub(rf"^`{name}`(?:: |'s? contract\.? ?(?:: |, |$|(?=\w)))", "", sentence)
-    return re.sub(r"^The contract(?:: | of `\w+`\. )", "", said)
+    return HINTED.sub("", re.sub(r"^The contract(?:: | of `\w+`\. )", "", said))
 
 
 def cell(name, words):
-    """The sentences of words, of which the first goes without its name if it is of the type."""
+    """The sentences of words, of which the first goes without its name if it is of the type. INDEX tells what its parts are."""
     said = []
-    for place, (word, sentence) in enumerate(words):
+    for place, (word, sentence) in enumerate((word, PARTS_ARE.sub("", sentence)) for word, sentence in words):
         own = place == 0 and (f"`{name}`" in sentence.split(".")[0] or not sentence.startswith(("A ", "The ")))
         shown = without_type(name, sentence).rstrip(".")
         said += [f"{shown}." if own else f"`{word}`: {shown}."] if shown else []

@@ -18,7 +18,7 @@ def count_of(pattern, files):
 def figures(crates):
     """What is counted, by its name in the pages."""
     rows = list(callers(crates))
-    words, lines = belief.size(crates, "fallible_core/src/traits.rt", "map", ("parts", "lists"))
+    words, lines = belief.size(crates, "fallible_itertools/src/traits.rt", "dedup", ("parts", "lists"))
     laws = list((crates / "fallible_iterator" / "src" / "laws").rglob("*.rt"))
     return {
         "edits": len(list(crates.glob("*/gate-edits/*.edit"))),
@@ -26,8 +26,8 @@ def figures(crates):
         "callers": len(rows),
         "callers with no proof": sum(1 for row in rows if not row[4]),
         "callers with a law": sum(1 for row in rows if row[5]),
-        "words of map": words,
-        "lines of map": lines,
+        "words of dedup": words,
+        "lines of dedup": lines,
         "laws": count_of(r"pub fn law_", laws),
         "tests": count_of(r"\s*#\[test\]", [*crates.glob("*/src/**/*.rt"), *(crates.parent / "tests").glob("*/src/**/*.rt.txt")]),
     }

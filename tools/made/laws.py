@@ -1,4 +1,6 @@
-"""docs/LAWS.md: each law, with the first paragraph of its comment."""
+"""docs/LAWS.md: each law, with the first paragraph of its comment. Laws whose sentences differ in the type alone share one."""
+
+import re
 
 from made import code
 
@@ -12,6 +14,12 @@ HEAD = """# Laws
 
 Each law, with what it says. A law is a function that is called for its contract alone. The first two are the headline, of every source and nest: its definition is the `traces` of its contract. `tools/pages` writes this page, and the gate compares it.
 """
+SHARED = """
+## Of one type each
+
+*T* is the type that the law is named for.
+"""
+TYPE = re.compile(r"`[A-Z]\w*`")
 
 
 def laws(crates):
@@ -24,15 +32,39 @@ def laws(crates):
                     yield crate, path.relative_to(top).with_suffix(""), function.name, function.comment
 
 
+def of_type(name, comment):
+    """A comment with T in the place of the type that the law is named for, if it names it."""
+    named = {tail.replace("_", "") for tail in tails(name)}
+    return TYPE.sub(lambda found: "*T*" if found.group()[1:-1].lower() in named else found.group(), comment)
+
+
+def tails(name):
+    """The ends of a law's name, each of which may be a type's."""
+    parts = name.split("_")
+    return ["_".join(parts[n:]) for n in range(1, len(parts))]
+
+
 def page(crates):
     """The text of the page."""
-    lines, last = [HEAD], None
-    for crate, place, name, comment in laws(crates):
-        if (crate, place) != last:
-            last = (crate, place)
-            lines.append(f"## {crate}, {place}.rt\n\n| Law | What it says |\n|---|---|")
-        said = comment.replace("|", "\\|")
-        lines.append(f"| `{name}` | {said} |")
+    found = list(laws(crates))
+    alike = {}
+    for _, _, name, comment in found:
+        said = of_type(name, comment)
+        if said != comment:
+            alike.setdefault(said, []).append(name)
+    alike = {said: names for said, names in alike.items() if len(names) > 1}
+    shared = {name for names in alike.values() for name in names}
+    lines, last = [HEAD.rstrip("\n")], None
+    for crate, _, name, comment in found:
+        if name in shared:
+            continue
+        if crate != last:
+            last = crate
+            lines.append(f"\n## {crate}\n")
+        lines.append(f"- `{name}`: {comment}")
+    if alike:
+        lines.append(SHARED)
+        lines += [f"- {', '.join(f'`{name}`' for name in names)}: {said}" for said, names in alike.items()]
     return "\n".join(lines) + "\n"
 
 

@@ -1,4 +1,7 @@
-"""The tables of docs/ADDING.md: the goals of the adapters that it names to copy, and the lemmas that their terms cite."""
+"""The tables of docs/ADDING.md: the goals of the adapters that it names to copy, and the lemmas that their terms cite.
+
+Left out are the goals that a lemma of the type's own closes alone: the method's clause `lists`, by its lemma `lists_..`, and
+the law of its hint, by `hints_..`."""
 
 import re
 
@@ -14,6 +17,8 @@ SIBLINGS = {
 CALLS = ("next", "drive", "on_item")
 HEAD = "| Goal | Lemmas | In |\n|---|---|---|"
 LEMMAS = re.compile(r"use Rattle\.(?!std\b)\w+\.(?:proofs\.Lemmas|specs\.Laws)\.[\w.]+\.\{([^}]*)\}")
+# The goal and the call that a lemma of the type's own closes, by how that begins.
+OWN = {("returns-clause-lists", "the method"): "lists_", ("returns", "the law of the hint"): "hints_"}
 GOAL = re.compile(r"(?:abbrev )?pub ([\w-]+) : goal\.\1")
 
 
@@ -43,7 +48,8 @@ def table(crates, names):
     for name in names:
         for call, path in files(crates, name):
             for goal, lemmas in goals(path):
-                if lemmas:
+                own = OWN.get((goal, call), " ")
+                if lemmas and not (len(lemmas) == 1 and lemmas[0].startswith(own)):
                     rows.setdefault((f"`{goal}` of {call}", tuple(sorted(lemmas))), []).append(name)
     return [HEAD, *(f"| {goal} | {listed(lemmas)} | {listed(dict.fromkeys(found))} |" for (goal, lemmas), found in rows.items())]
 
