@@ -3,7 +3,7 @@ use Rattle.std.proofs.Common.{◌≡◌, ℕ, ◌+◌, ◌*◌, ◌/◌, ◌%◌
 use Rattle.std.proofs.lemmas.List.{drop_more}
 use Rattle.fallible_pg.specs.Base64.{symbol, symbols_of, base64}
 
-base64-three : (a b c : ℕ) (rest : List ℕ) → base64 (a ∷ b ∷ c ∷ rest) ≡ symbols_of a b c ++ base64 rest
+pub base64-three : (a b c : ℕ) (rest : List ℕ) → base64 (a ∷ b ∷ c ∷ rest) ≡ symbols_of a b c ++ base64 rest
 unfolding base64
 base64-three a b c rest = refl
 

@@ -5,31 +5,6 @@ use Rattle.std.proofs.lemmas.List.{take_more, drop_more, take_all}
 use Rattle.fallible_pg.specs.Faults.{field_from}
 use Rattle.fallible_pg.specs.Strings.{before_zero}
 
-before_zero-zero : (b : ℕ) (bs : List ℕ) → b ≡ 0 → before_zero (b ∷ bs) ≡ []
-unfolding before_zero
-before_zero-zero b bs is = rw (eq-eqb b 0 is) refl
-
-before_zero-other : (b : ℕ) (bs : List ℕ) → b ≢ 0 → before_zero (b ∷ bs) ≡ b ∷ before_zero bs
-unfolding before_zero
-before_zero-other b bs other = rw (ne_eqb b 0 other) refl
-
-before_zero-none : before_zero [] ≡ []
-unfolding before_zero
-before_zero-none = refl
-
-module _ (bytes : List ℕ) (i : ℕ) (so_far : before_zero bytes ≡ take i bytes ++ before_zero (drop i bytes)) where
-  pub zero_next : i < length bytes → slice_index bytes i ≢ 0 → before_zero bytes ≡ take (i + 1) bytes ++ before_zero (drop (i + 1) bytes)
-  zero_next inside other =
-      let b = slice_index bytes i in
-      let rest = before_zero (drop (i + 1) bytes) in
-      so_far ∙ ap (λ l. take i bytes ++ before_zero l) (drop_more bytes i 0 inside) ∙ ap (λ l. take i bytes ++ l) (before_zero-other b (drop (i + 1) bytes) other) ∙ sym (append_assoc (take i bytes) (b ∷ []) rest) ∙ ap (λ l. l ++ rest) (sym (take_more bytes i 0 inside))
-
-  pub takes_up_to_zero : i < length bytes → slice_index bytes i ≡ 0 → take i bytes ≡ before_zero bytes
-  takes_up_to_zero inside is = sym (so_far ∙ ap (λ l. take i bytes ++ before_zero l) (drop_more bytes i 0 inside) ∙ ap (λ l. take i bytes ++ l) (before_zero-zero (slice_index bytes i) (drop (i + 1) bytes) is) ∙ append-nil (take i bytes))
-
-  pub no_zero : length bytes ≤ i → bytes ≡ before_zero bytes
-  no_zero all_read = sym (so_far ∙ ap (λ l. take i bytes ++ before_zero l) (drop_of_length-le bytes all_read) ∙ ap (λ l. take i bytes ++ l) before_zero-none ∙ append-nil (take i bytes) ∙ take_all i bytes all_read)
-
 -- ---- fields
 
 field_of_other_byte : (begins : Bool) (letter b : ℕ) (bs : List ℕ) → (begins ≡ true → b ≢ letter) → field_from begins letter (b ∷ bs) ≡ field_from (b == 0) letter bs

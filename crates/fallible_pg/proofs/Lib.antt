@@ -1,4 +1,5 @@
 mod Base64Lemmas
+mod Base64ReadLemmas
 mod CellLemmas
 mod ColumnLemmas
 mod CsvLemmas
@@ -12,6 +13,7 @@ mod ReportLaw
 mod RowLemmas
 mod ScramLemmas
 mod SizeLemmas
+mod StringLemmas
 mod TextLemmas
 mod TurnLaw
 mod TurnLemmas

@@ -1,10 +1,11 @@
 -- The words of SCRAM-SHA-256, over a hash.
-use Rattle.std.specs.Prelude.{◌≡◌, ℕ, zero, suc, List, [], ◌∷◌, ◌++◌, length, take, slice_index, Some, codes, vec_items}
+use Rattle.std.specs.Prelude.{◌≡◌, ℕ, zero, suc, List, [], ◌∷◌, ◌++◌, length, take, drop, slice_index, Some, codes, vec_items}
 use Rattle.std.specs.Int.{w32, to_be_bytes}
 use Rattle.std.specs.Int.Bits.{bit_xor}
 use Rattle.program_io.specs.Numbers.{number_of}
 use Rattle.fallible_pg.specs.Base64.{base64}
 use Rattle.fallible_pg.specs.Sent.{sent_message}
+use Rattle.fallible_pg.specs.Strings.{before}
 use Rattle.fallible_pg.specs.declared.scram.Answer.{Answer}
 
 -- ---- what a client says first
@@ -26,6 +27,29 @@ sent_first nonce = sent_message (codes "p") (codes "SCRAM-SHA-256" ++ 0 ∷ to_b
 -- What a server asks: it repeats the client's text and adds one of its own, and tells the salt and how many rounds of the hash the password takes.
 abbrev pub asked_words : List ℕ → List ℕ → List ℕ → List ℕ
 asked_words nonce salt digits = codes "r=" ++ nonce ++ codes ",s=" ++ base64 salt ++ codes ",i=" ++ digits
+
+-- A server asks well: it asks in these words, the digits write a number, and its text begins with the client's own and has no comma.
+pub record Asks (own asked nonce salt digits : List ℕ) (rounds : ℕ) : Type 0 where
+  pub is : asked ≡ asked_words nonce salt digits
+  pub counted : number_of digits ≡ Some rounds
+  pub repeats : take (length own) nonce ≡ own
+  pub plain : before 44 nonce ≡ nonce
+
+-- The parts that a text has, if a server asks well by it: the client's text with the server's
+abbrev pub nonce_part : List ℕ → List ℕ
+nonce_part asked = before 44 (drop 2 asked)
+
+-- what is after that and the name of the salt
+abbrev pub salted_part : List ℕ → List ℕ
+salted_part asked = drop 3 (drop (length (nonce_part asked)) (drop 2 asked))
+
+-- the salt, in base64
+abbrev pub salt_part : List ℕ → List ℕ
+salt_part asked = before 44 (salted_part asked)
+
+-- the digits of the number of rounds
+abbrev pub digits_part : List ℕ → List ℕ
+digits_part asked = drop 3 (drop (length (salt_part asked)) (salted_part asked))
 
 -- ---- what the client answers
 
@@ -63,15 +87,13 @@ module _ (hash : List ℕ → List ℕ) (hmac : List ℕ → List ℕ → List �
   abbrev pub last_words : List ℕ → List ℕ → List ℕ
   last_words stretched said = codes "v=" ++ base64 (server_proof stretched said)
 
--- The client's answer to what a server asks: the question is well formed, its text begins with the client's own, and the answer has the words by which the client proves that it knows the password, and those by which the server does.
+-- The client's answer to what a server asks: it asks well, and the answer has the words by which the client proves that it knows the password, and those by which the server does.
 pub record Answers (hash : List ℕ → List ℕ) (hmac : List ℕ → List ℕ → List ℕ) (stretch : List ℕ → List ℕ → ℕ → List ℕ) (password own asked words wanted : List ℕ) : Type 0 where
   pub nonce : List ℕ
   pub salt : List ℕ
   pub digits : List ℕ
   pub rounds : ℕ
-  pub is : asked ≡ asked_words nonce salt digits
-  pub counted : number_of digits ≡ Some rounds
-  pub repeats : take (length own) nonce ≡ own
+  pub asks : Asks own asked nonce salt digits rounds
   pub says : words ≡ answer_words hash hmac nonce (stretch password salt rounds) (said_words own asked nonce)
   pub wants : wanted ≡ last_words hash hmac (stretch password salt rounds) (said_words own asked nonce)
 

@@ -1,11 +1,12 @@
 //! The words of SCRAM-SHA-256 (RFC 5802 and RFC 7677), over a hash that is handed in.
-ghost use Rattle.std.specs.Prelude.{◌≡◌, ◌≤◌, ◌++◌, ℕ, List, true, Some, length, bytes_eq, codes, take, IfOk, IfSome, vec_items};
-ghost use Rattle.fallible_pg.specs.Scram.{Answers, answer_says, answer_wants, answer_words, last_words, said_words, sent_first, xored};
+ghost use Rattle.std.specs.Prelude.{◌≡◌, ◌≤◌, ◌++◌, ℕ, List, length, bytes_eq, codes, take, drop, IfOk, MatchOption, vec_items};
+ghost use Rattle.fallible_pg.specs.Scram.{Answers, Asks, answer_says, answer_wants, answer_words, digits_part, last_words, nonce_part, said_words, salt_part, sent_first, xored};
 ghost use Rattle.fallible_pg.specs.Sent.{sent_message};
 ghost use Rattle.program_io.specs.Numbers.{number_of};
 
 use crate::base64::{base64, from_base64};
 use crate::sending::{Unsent, message_of};
+use crate::strings::before;
 use program_io::numbers::number_of;
 use std::alloc::Global;
 use std::str::from_utf8;
@@ -69,18 +70,10 @@ struct Question<'a> {
     digits: &'a [u8],
 }
 
-// The bytes before the first comma.
-fn before_comma(bytes: &[u8]) -> &[u8] {
-    for place in 0..bytes.len() {
-        if bytes[place] == b',' {
-            return &bytes[..place];
-        }
-    }
-    bytes
-}
-
 // The bytes after so many; none where there are fewer.
-fn beyond(bytes: &[u8], count: usize) -> &[u8] {
+fn beyond(bytes: &[u8], count: usize) -> &[u8]
+    ensures { result.now ≡ drop count bytes.now }
+{
     if count <= bytes.len() {
         &bytes[count..]
     } else {
@@ -88,12 +81,17 @@ fn beyond(bytes: &[u8], count: usize) -> &[u8] {
     }
 }
 
-// The parts that a text may have which a server asks. Whether it has these is for the caller to see.
-fn parts_of(asked: &[u8]) -> Question<'_> {
-    let nonce = before_comma(beyond(asked, 2));
-    let rest = beyond(beyond(asked, 2), nonce.len());
-    let salt = before_comma(beyond(rest, 3));
-    let digits = beyond(beyond(beyond(rest, 3), salt.len()), 3);
+// The parts that a text has, if a server asks well by it. Whether it does is for the caller to see.
+fn parts_of(asked: &[u8]) -> Question<'_>
+    ensures nonce { result.nonce.now ≡ nonce_part asked.now }
+    ensures salt { result.salt.now ≡ salt_part asked.now }
+    ensures digits { result.digits.now ≡ digits_part asked.now }
+{
+    let words = beyond(asked, 2);
+    let nonce = before(b',', words);
+    let salted = beyond(beyond(words, nonce.len()), 3);
+    let salt = before(b',', salted);
+    let digits = beyond(beyond(salted, salt.len()), 3);
     Question {
         nonce,
         salt,
@@ -103,9 +101,9 @@ fn parts_of(asked: &[u8]) -> Question<'_> {
 
 // Whether a text that a server asks has these parts.
 fn has_parts(alloc: Global, asked: &[u8], parts: Question<'_>) -> Result<bool, Unsent>
-    ensures { IfOk result (λ has. has ≡ true → asked.now
-        ≡ codes "r=" ++ parts.entry.nonce.now ++ codes ",s=" ++ parts.entry.salt.now ++ codes ",i="
-        ++ parts.entry.digits.now) }
+    ensures { IfOk result (λ has. has ≡ bytes_eq
+        (codes "r=" ++ parts.entry.nonce.now ++ codes ",s=" ++ parts.entry.salt.now ++ codes ",i="
+        ++ parts.entry.digits.now) asked.now) }
 {
     let last = joined(alloc, parts.salt, b",i=", parts.digits)?;
     let rest = joined(alloc, parts.nonce, b",s=", last.as_slice())?;
@@ -115,7 +113,7 @@ fn has_parts(alloc: Global, asked: &[u8], parts: Question<'_>) -> Result<bool, U
 
 // The number that digits write, if they write one.
 fn rounds_of(digits: &[u8]) -> Option<u64>
-    ensures { IfSome result (λ n. number_of digits.now ≡ Some n) }
+    ensures { result ≡ number_of digits.now }
 {
     match from_utf8(digits) {
         Ok(text) => number_of(text),
@@ -125,7 +123,7 @@ fn rounds_of(digits: &[u8]) -> Option<u64>
 
 // Whether a text begins with another.
 fn begins_with(text: &[u8], start: &[u8]) -> bool
-    ensures { result ≡ true → take (length start.now) text.now ≡ start.now }
+    ensures { result ≡ bytes_eq (take (length start.now) text.now) start.now }
 {
     start.len() <= text.len() && &text[..start.len()] == start
 }
@@ -195,7 +193,7 @@ pub struct Answer {
     wanted: Vec<u8>,
 }
 
-/// The answer to what a server asks, after the client sent a text of its own first; `None` where that isn't asked as it must be, or doesn't begin with the client's text. It never fails with `Long`.
+/// The answer to what a server asks, after the client sent a text of its own first; `None` only where the server doesn't ask well: in other words, with a number of rounds that is none, or by a text that doesn't begin with the client's or has a comma. It never fails with `Long`.
 pub fn answer_of<H: Hash>(
     alloc: Global,
     hash: &H,
@@ -203,8 +201,10 @@ pub fn answer_of<H: Hash>(
     own: &[u8],
     asked: &[u8],
 ) -> Result<Option<Answer>, Unsent>
-    ensures { IfOk result (λ found. IfSome found (λ answer. Answers H.hash H.hmac H.stretch
-        password.now own.now asked.now (answer_says answer) (answer_wants answer))) }
+    ensures { IfOk result (λ found. MatchOption found
+        ((nonce salt digits : List ℕ) (rounds : ℕ) → ¬ (Asks own.now asked.now nonce salt digits rounds))
+        (λ answer. Answers H.hash H.hmac H.stretch password.now own.now asked.now
+        (answer_says answer) (answer_wants answer))) }
 {
     let parts = parts_of(asked);
     let Some(salt) = from_base64(alloc, parts.salt)? else {
