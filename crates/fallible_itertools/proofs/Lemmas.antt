@@ -44,6 +44,7 @@ pub use Rattle.fallible_itertools_adapters.proofs.Lemmas.PlanHints
 pub use Rattle.fallible_itertools_adapters.proofs.Lemmas.Positions
 pub use Rattle.fallible_itertools_adapters.proofs.Lemmas.RunCounts
 pub use Rattle.fallible_itertools_adapters.proofs.Lemmas.Sides
+pub use Rattle.fallible_itertools_adapters.proofs.Lemmas.Sieved
 pub use Rattle.fallible_itertools_adapters.proofs.Lemmas.Staged
 pub use Rattle.fallible_itertools_adapters.proofs.Lemmas.Staging
 pub use Rattle.fallible_itertools_adapters.proofs.Lemmas.StagingHints

@@ -44,6 +44,7 @@ pub mod PlanHints
 pub mod Positions
 pub mod RunCounts
 pub mod Sides
+pub mod Sieved
 pub mod Staged
 pub mod StagedMade
 pub mod Staging

@@ -34,6 +34,7 @@ pub mod Plan
 pub mod Positions
 pub mod RunCounts
 pub mod Sides
+pub mod Sieved
 pub mod Staged
 pub mod Staging
 pub mod StopAfter
