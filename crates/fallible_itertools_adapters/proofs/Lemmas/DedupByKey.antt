@@ -2,7 +2,7 @@
 use Rattle.std.specs.Prelude.{◌≡◌, ⊤, Bool, true, false, Option, Some, None, Result, Ok, Err, List, [], ◌∷◌, ◌++◌}
 use Rattle.std.specs.Fn.{Mut}
 use Rattle.std.specs.Borrow.{Bor}
-use Rattle.std.proofs.Common.{refl, subst, arith}
+use Rattle.std.proofs.Common.{refl, subst}
 use Rattle.fallible_iterator.specs.Closures.{IsCallable, call_by_reference, takes_by_reference}
 use Rattle.fallible_iterator.specs.Contract.{Contract, parts_as}
 use Rattle.fallible_iterator.specs.Lists.{Acts, Lists}
@@ -10,37 +10,14 @@ use Rattle.fallible_iterator.proofs.Lemmas.Lists.Passing.{lists_seen}
 use Rattle.fallible_itertools_adapters.specs.Adjacent.{AdjacentItems, HaveKeys}
 use Rattle.fallible_itertools_adapters.specs.BeforeStop.{HintsWhereHeld, held_one}
 use Rattle.fallible_itertools_adapters.specs.DedupByKey.{dedup_by_key_contract, dedup_by_key_due, dedup_by_key_parts, dedup_by_key_source, dedup_key_plan, dedup_key_stops, deduped_by_key, keyed_by, keyed_item, unless_same_key}
-use Rattle.fallible_itertools_adapters.specs.Laws.DedupByKey.{dedup_key_plan_weighs, held_one_of_keyed}
+use Rattle.fallible_itertools_adapters.specs.Laws.DedupByKey.{dedup_key_plan_buffers, held_one_of_keyed}
 use Rattle.fallible_itertools_adapters.specs.Plan.{plan_can}
 use Rattle.fallible_itertools_adapters.specs.Staged.{as_function}
 use Rattle.fallible_itertools_adapters.specs.Staging.{Made, MayMeet, stop_comes}
-use Rattle.fallible_itertools_adapters.proofs.Lemmas.BeforeStop.{Apart, HeldWhereNone, NoEnd, adjacent_items_apart, end_before_stop, hints_where_one_held, parted_by_failure}
+use Rattle.fallible_itertools_adapters.proofs.Lemmas.BeforeStop.{Apart, adjacent_items_apart, end_before_stop, hints_where_one_held, parted_by_failure}
 use Rattle.fallible_itertools_adapters.proofs.Lemmas.Plan.{plan_can_where_callable}
 use Rattle.fallible_itertools_adapters.proofs.Lemmas.Staged.{gives_plan}
 use Rattle.fallible_itertools_adapters.specs.declared.dedup_by_key.DedupByKey.{DedupByKey}
-
--- ---- what an item makes
-
-module _ {A K : Type 0} (E : Type 0) (eq : K → K → Bool) where
-  unless_same_key_ends_nothing : (held next : K × A) (b : Bool) → NoEnd {E = E} (unless_same_key eq held next b).0
-  unless_same_key_ends_nothing held next true = tt
-  unless_same_key_ends_nothing held next false = tt
-
-  ends_nothing : (held : Option (K × A)) (x : A) (v : Result K E) → NoEnd (keyed_by eq held x v).0
-  ends_nothing None x (Err e) = tt
-  ends_nothing (Some p) x (Err e) = tt
-  ends_nothing None x (Ok k) = tt
-  ends_nothing (Some p) x (Ok k) = unless_same_key_ends_nothing p (k, x) (eq p.0 k)
-
-  unless_same_key_holds : (held next : K × A) (b : Bool) → HeldWhereNone {E = E} (held_one (unless_same_key eq {E = E} held next b).1) (unless_same_key eq held next b).0
-  unless_same_key_holds held next true = omega arith
-  unless_same_key_holds held next false = tt
-
-  holds_where_none : (held : Option (K × A)) (x : A) (v : Result K E) → HeldWhereNone (held_one (keyed_by eq held x v).1) (keyed_by eq held x v).0
-  holds_where_none None x (Err e) = tt
-  holds_where_none (Some p) x (Err e) = tt
-  holds_where_none None x (Ok k) = omega arith
-  holds_where_none (Some p) x (Ok k) = unless_same_key_holds p (k, x) (eq p.0 k)
 
 module _ {A K E : Type 0} (eq : K → K → Bool) (h : A → Result K E) where
   -- ---- its equations
@@ -77,7 +54,7 @@ module _ {A K E : Type 0} (eq : K → K → Bool) (h : A → Result K E) where
 
   pub deduped_by_key_in_parts : (a : List (Result A E)) (e : E) (b : List (Result A E)) → deduped_by_key eq h (a ++ Err e ∷ b) ≡ deduped_by_key eq h a ++ Err e ∷ deduped_by_key eq h b
   unfolding deduped_by_key
-  deduped_by_key_in_parts a e b = parted_by_failure h (dedup_key_plan eq) keyed_item (λ held. None) None (λ held. refl) (ends_nothing E eq) None a e b
+  deduped_by_key_in_parts a e b = parted_by_failure h (dedup_key_plan eq) keyed_item (λ held. None) None (λ held. refl) held_one (dedup_key_plan_buffers E eq) None a e b
 
   -- two items have keys that differ
   abbrev Differ : A → A → Type 0
@@ -121,7 +98,7 @@ lists_deduped_by_key {E = E} {it = it} m eq g s f h l parts acts i = lists_seen 
 -- ---- its hint
 
 pub hints_dedup_by_key : {S A K F E : Type 0} (m : Contract S A E) (eq : K → K → Bool) (g : Mut F (Bor A × Unit {0}) (Result K E)) → HintsWhereHeld (parts_as dedup_by_key_parts (dedup_by_key_contract eq g m)) dedup_by_key_due m dedup_by_key_source
-hints_dedup_by_key {E = E} m eq g = hints_where_one_held E keyed_item (λ held. None) held_one held_one_of_keyed (call_by_reference g) (dedup_key_plan eq) (dedup_key_plan_weighs E eq) (ends_nothing E eq) (holds_where_none E eq) dedup_by_key_parts m (plan_can (call_by_reference g) (dedup_key_plan eq) dedup_key_stops (takes_by_reference g)) 1
+hints_dedup_by_key {E = E} m eq g = hints_where_one_held E keyed_item (λ held. None) held_one held_one_of_keyed (call_by_reference g) (dedup_key_plan eq) (dedup_key_plan_buffers E eq) dedup_by_key_parts m (plan_can (call_by_reference g) (dedup_key_plan eq) dedup_key_stops (takes_by_reference g)) 1
 
 -- where the closure may be called on what comes, so may the adapter
 pub plan_can_dedup_key : {S A K F E : Type 0} (m : Contract S A E) (eq : K → K → Bool) (g : Mut F (Bor A × Unit {0}) (Result K E)) (s : S) (p : Option (K × A) × F) → IsCallable (call_by_reference g) (takes_by_reference g) (m.may_give s) p.1 → plan_can (call_by_reference g) (dedup_key_plan eq) dedup_key_stops (takes_by_reference g) (MayMeet m s) p
