@@ -46,6 +46,45 @@ always_of_followed : {Q R H B L E : Type 0} (P : Made B L E → Type 0) (g : Q �
 always_of_followed P g (makes t) is = is
 always_of_followed P g (calls q by) is = is (g q)
 
+-- ---- adjacent items are apart
+
+module _ {B : Type 0} (P : B → B → Type 0) where
+  -- an item is held, and P holds of z and that
+  abbrev pub HoldsOfHeld : B → Option B → Type 0
+  HoldsOfHeld z None = ⊥
+  HoldsOfHeld z (Some y) = P z y
+
+  -- Where P holds of z and what was held, it holds of z and the item that is made, or of z and what is held then if none is made. It also holds of an item that is made and what is held then.
+  abbrev pub Apart : {E : Type 0} → Option B → Made B (Option E) E → Option B → Type 0
+  Apart was None held = (z : B) → HoldsOfHeld z was → HoldsOfHeld z held
+  Apart was (Some (Ok (Some y), None)) held = HoldsOfHeld y held × ((z : B) → HoldsOfHeld z was → P z y)
+  Apart was (Some (Ok (Some y), Some later)) held = (z : B) → HoldsOfHeld z was → P z y
+  Apart was (Some (Ok None, due)) held = ⊤
+  Apart was (Some (Err e, due)) held = ⊤
+
+  module _ {E : Type 0} where
+    next_apart : (was held : Option B) (made : Made B (Option E) E) (rest : List (Result B E)) (z : B) → Apart was made held → HoldsOfHeld z was → (HoldsOfHeld z held → HoldsOfNext P z rest) → HoldsOfNext P z (made_first stop_comes made rest)
+    next_apart was held None rest z apart at next = next (apart z at)
+    next_apart was held (Some (Ok (Some y), None)) rest z apart at next = apart.1 z at
+    next_apart was held (Some (Ok (Some y), Some later)) rest z apart at next = apart z at
+    next_apart was held (Some (Ok None, due)) rest z apart at next = tt
+    next_apart was held (Some (Err e, due)) rest z apart at next = tt
+
+    each_apart : (was held : Option B) (made : Made B (Option E) E) (rest : List (Result B E)) → Apart was made held → ((y : B) → HoldsOfHeld y held → HoldsOfNext P y rest) → EachNext P rest → EachNext P (made_first stop_comes made rest)
+    each_apart was held None rest apart next each = each
+    each_apart was held (Some (Ok (Some y), None)) rest apart next each = (next y apart.0, each)
+    each_apart was held (Some (Ok (Some y), Some None)) rest apart next each = (tt, tt)
+    each_apart was held (Some (Ok (Some y), Some (Some e))) rest apart next each = (tt, each)
+    each_apart was held (Some (Ok None, due)) rest apart next each = tt
+    each_apart was held (Some (Err e, None)) rest apart next each = each
+    each_apart was held (Some (Err e, Some None)) rest apart next each = tt
+    each_apart was held (Some (Err e, Some (Some d))) rest apart next each = each
+
+    apart_at_stop : (was held : Option B) (stop : Option E) → Apart was (before_stop was stop) held
+    apart_at_stop None held None = tt
+    apart_at_stop None held (Some e) = tt
+    apart_at_stop (Some y) held stop = λ z after. after
+
 -- `kept h` is what comes of h at a stop, and `empty h` is held then.
 module _ {Q R H X B E : Type 0} (g : Q → R) (plan : H → X → Plan Q R (Making H B (Option E) E)) (kept : H → Option B) (empty : H → H) where
   abbrev lets_go : H → Option E → Making H B (Option E) E
@@ -63,50 +102,19 @@ module _ {Q R H X B E : Type 0} (g : Q → R) (plan : H → X → Plan Q R (Maki
 
   -- ---- adjacent items are apart
 
-  -- `After z h` says that what comes of h may stand after z. What is made keeps so, and P holds of z and an item that is made.
-  module _ (P : B → B → Type 0) (Good : H → Type 0) (After : B → H → Type 0) where
-    abbrev pub Apart : H → Made B (Option E) E → H → Type 0
-    Apart h None k = (z : B) → After z h → After z k
-    Apart h (Some (Ok (Some y), None)) k = After y k × ((z : B) → After z h → P z y)
-    Apart h (Some (Ok (Some y), Some later)) k = (z : B) → After z h → P z y
-    Apart h (Some (Ok None, due)) k = ⊤
-    Apart h (Some (Err e, due)) k = ⊤
+  module _ (P : B → B → Type 0) (Good : H → Type 0) (at_item : (h : H) (x : X) → Good h → Apart P (kept h) (followed (as_function g) (plan h x) tt).0 (kept (followed (as_function g) (plan h x) tt).1.0)) (good_at_item : (h : H) (x : X) → Good h → Good (followed (as_function g) (plan h x) tt).1.0) (good_at_stop : (h : H) → Good (empty h)) where
+    next_of_list : (l : List (Result X E)) (h : H) (z : B) → Good h → HoldsOfHeld P z (kept h) → HoldsOfNext P z (list_from h l)
+    next_of_list [] h z good after = next_apart P (kept h) (kept (empty h)) (before_stop (kept h) None) [] z (apart_at_stop P (kept h) _ None) after (λ at. tt)
+    next_of_list (Ok x ∷ l) h z good after = let t = followed (as_function g) (plan h x) tt in next_apart P (kept h) (kept t.1.0) t.0 (list_from t.1.0 l) z (at_item h x good) after (next_of_list l t.1.0 z (good_at_item h x good))
+    next_of_list (Err e ∷ l) h z good after = next_apart P (kept h) (kept (empty h)) (before_stop (kept h) (Some e)) (list_from (empty h) l) z (apart_at_stop P (kept h) _ (Some e)) after (next_of_list l (empty h) z (good_at_stop h))
 
-    next_apart : (h : H) (made : Made B (Option E) E) (k : H) (rest : List (Result B E)) (z : B) → Apart h made k → After z h → (After z k → HoldsOfNext P z rest) → HoldsOfNext P z (made_first stop_comes made rest)
-    next_apart h None k rest z apart at next = next (apart z at)
-    next_apart h (Some (Ok (Some y), None)) k rest z apart at next = apart.1 z at
-    next_apart h (Some (Ok (Some y), Some later)) k rest z apart at next = apart z at
-    next_apart h (Some (Ok None, due)) k rest z apart at next = tt
-    next_apart h (Some (Err e, due)) k rest z apart at next = tt
+    each_of_list : (l : List (Result X E)) (h : H) → Good h → EachNext P (list_from h l)
+    each_of_list [] h good = each_apart P (kept h) (kept (empty h)) (before_stop (kept h) None) [] (apart_at_stop P (kept h) _ None) (λ y at. tt) tt
+    each_of_list (Ok x ∷ l) h good = let t = followed (as_function g) (plan h x) tt in let then = good_at_item h x good in each_apart P (kept h) (kept t.1.0) t.0 (list_from t.1.0 l) (at_item h x good) (λ y after. next_of_list l t.1.0 y then after) (each_of_list l t.1.0 then)
+    each_of_list (Err e ∷ l) h good = let then = good_at_stop h in each_apart P (kept h) (kept (empty h)) (before_stop (kept h) (Some e)) (list_from (empty h) l) (apart_at_stop P (kept h) _ (Some e)) (λ y after. next_of_list l (empty h) y then after) (each_of_list l (empty h) then)
 
-    each_apart : (h : H) (made : Made B (Option E) E) (k : H) (rest : List (Result B E)) → Apart h made k → ((y : B) → After y k → HoldsOfNext P y rest) → EachNext P rest → EachNext P (made_first stop_comes made rest)
-    each_apart h None k rest apart next each = each
-    each_apart h (Some (Ok (Some y), None)) k rest apart next each = (next y apart.0, each)
-    each_apart h (Some (Ok (Some y), Some None)) k rest apart next each = (tt, tt)
-    each_apart h (Some (Ok (Some y), Some (Some e))) k rest apart next each = (tt, each)
-    each_apart h (Some (Ok None, due)) k rest apart next each = tt
-    each_apart h (Some (Err e, None)) k rest apart next each = each
-    each_apart h (Some (Err e, Some None)) k rest apart next each = tt
-    each_apart h (Some (Err e, Some (Some d))) k rest apart next each = each
-
-    module _ (at_item : (h : H) (x : X) → Good h → Apart h (followed (as_function g) (plan h x) tt).0 (followed (as_function g) (plan h x) tt).1.0) (good_at_item : (h : H) (x : X) → Good h → Good (followed (as_function g) (plan h x) tt).1.0) (at_stop : (h : H) (y z : B) → kept h ≡ Some y → After z h → P z y) (good_at_stop : (h : H) → Good (empty h)) where
-      apart_at_stop : (h : H) (o : Option B) (stop : Option E) → kept h ≡ o → Apart h (before_stop o stop) (empty h)
-      apart_at_stop h None None is = tt
-      apart_at_stop h None (Some e) is = tt
-      apart_at_stop h (Some y) stop is = λ z after. at_stop h y z is after
-
-      next_of_list : (l : List (Result X E)) (h : H) (z : B) → Good h → After z h → HoldsOfNext P z (list_from h l)
-      next_of_list [] h z good after = next_apart h (before_stop (kept h) None) (empty h) [] z (apart_at_stop h (kept h) None refl) after (λ at. tt)
-      next_of_list (Ok x ∷ l) h z good after = let t = followed (as_function g) (plan h x) tt in next_apart h t.0 t.1.0 (list_from t.1.0 l) z (at_item h x good) after (next_of_list l t.1.0 z (good_at_item h x good))
-      next_of_list (Err e ∷ l) h z good after = next_apart h (before_stop (kept h) (Some e)) (empty h) (list_from (empty h) l) z (apart_at_stop h (kept h) (Some e) refl) after (next_of_list l (empty h) z (good_at_stop h))
-
-      each_of_list : (l : List (Result X E)) (h : H) → Good h → EachNext P (list_from h l)
-      each_of_list [] h good = each_apart h (before_stop (kept h) None) (empty h) [] (apart_at_stop h (kept h) None refl) (λ y at. tt) tt
-      each_of_list (Ok x ∷ l) h good = let t = followed (as_function g) (plan h x) tt in let then = good_at_item h x good in each_apart h t.0 t.1.0 (list_from t.1.0 l) (at_item h x good) (λ y after. next_of_list l t.1.0 y then after) (each_of_list l t.1.0 then)
-      each_of_list (Err e ∷ l) h good = let then = good_at_stop h in each_apart h (before_stop (kept h) (Some e)) (empty h) (list_from (empty h) l) (apart_at_stop h (kept h) (Some e) refl) (λ y after. next_of_list l (empty h) y then after) (each_of_list l (empty h) then)
-
-      pub adjacent_items_apart : (l : List (Result X E)) (h : H) → Good h → AdjacentItems P (list_from h l)
-      adjacent_items_apart l h good = adjacent_items_of_each_next P (list_from h l) (each_of_list l h good)
+    pub adjacent_items_apart : (l : List (Result X E)) (h : H) → Good h → AdjacentItems P (list_from h l)
+    adjacent_items_apart l h good = adjacent_items_of_each_next P (list_from h l) (each_of_list l h good)
 
 -- ---- the hint where a stop is due
 

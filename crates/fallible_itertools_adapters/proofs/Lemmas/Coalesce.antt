@@ -13,7 +13,7 @@ use Rattle.fallible_itertools_adapters.specs.Dedup.{dedup_stops}
 use Rattle.fallible_itertools_adapters.specs.Laws.Coalesce.{coalesce_plan_buffers}
 use Rattle.fallible_itertools_adapters.specs.Plan.{Making, plan_can}
 use Rattle.fallible_itertools_adapters.specs.Staged.{as_function, followed}
-use Rattle.fallible_itertools_adapters.specs.Staging.{Made, stop_comes}
+use Rattle.fallible_itertools_adapters.specs.Staging.{stop_comes}
 use Rattle.fallible_itertools_adapters.proofs.Lemmas.BeforeStop.{Apart, adjacent_items_apart, end_before_stop, hints_where_one_held, parted_by_failure}
 use Rattle.fallible_itertools_adapters.proofs.Lemmas.Staged.{gives_plan}
 use Rattle.fallible_itertools_adapters.specs.declared.coalesce.Coalesce.{Coalesce}
@@ -65,32 +65,21 @@ module _ {A E : Type 0} (h : A → A → OneOrBoth A E) where
     abbrev StaysApart : A → A → Type 0
     StaysApart x y = h x y ≡ Ok (Err (x, y))
 
-    -- what is held is kept apart from the item before it
-    abbrev After : A → Option A → Type 0
-    After z None = ⊥
-    After z (Some y) = StaysApart z y
-
-    abbrev ApartHere : Option A → Made A (Option E) E → Option A → Type 0
-    ApartHere = Apart {E = E} on_both coalesce_plan (λ held. held) (λ held. None) StaysApart (λ held. ⊤) After
-
-    both_apart : (y x : A) (both : A × A) → h y x ≡ Ok (Err both) → both ≡ (y, x) → ApartHere (Some y) (coalesced_by (Ok (Err both))).0 (coalesced_by {E = E} (Ok (Err both))).1
+    both_apart : (y x : A) (both : A × A) → h y x ≡ Ok (Err both) → both ≡ (y, x) → Apart StaysApart (Some y) (coalesced_by {E = E} (Ok (Err both))).0 (coalesced_by {E = E} (Ok (Err both))).1
     both_apart y x both is same = rw same ((rw same at is), λ z after. after)
 
-    coalesced_by_apart : (y x : A) (v : OneOrBoth A E) → h y x ≡ v → ApartHere (Some y) (coalesced_by v).0 (coalesced_by v).1
+    coalesced_by_apart : (y x : A) (v : OneOrBoth A E) → h y x ≡ v → Apart StaysApart (Some y) (coalesced_by v).0 (coalesced_by v).1
     coalesced_by_apart y x (Ok (Ok w)) is = λ z after. keeps.stays z y x w after is
     coalesced_by_apart y x (Ok (Err both)) is = both_apart y x both is (keeps.as_they_are y x both is)
     coalesced_by_apart y x (Err e) is = tt
 
     pub adjacent_coalesced_unmerged : (l : List (Result A E)) → AdjacentItems (λ x y. h x y ≡ Ok (Err (x, y))) (coalesced h l)
     unfolding coalesced
-    adjacent_coalesced_unmerged l = adjacent_items_apart on_both coalesce_plan (λ held. held) (λ held. None) StaysApart (λ held. ⊤) After at_item (λ held x good. tt) at_stop (λ held. tt) l None tt
+    adjacent_coalesced_unmerged l = adjacent_items_apart on_both coalesce_plan (λ held. held) (λ held. None) StaysApart (λ held. ⊤) at_item (λ held x good. tt) (λ held. tt) l None tt
       where
-        at_item : (held : Option A) (x : A) → ⊤ → ApartHere held (made_of held x).0 (made_of held x).1.0
+        at_item : (held : Option A) (x : A) → ⊤ → Apart StaysApart held (made_of held x).0 (made_of held x).1.0
         at_item None x good = λ z after. absurd after
         at_item (Some y) x good = coalesced_by_apart y x (h y x) refl
-
-        at_stop : (held : Option A) (y z : A) → held ≡ Some y → After z held → StaysApart z y
-        at_stop held y z is after = (rw is at after)
 
 pub lists_coalesced : {S A F E : Type 0} {it : S} (m : Contract S A E) (g : Mut F (A × (A × Unit {0})) (OneOrBoth A E)) (s : Coalesce S F A E) (f : F) (h : A → A → OneOrBoth A E) (l : List (Result A E)) → coalesce_parts s ≡ (it, ((None, f), None)) → ActsWith (call_with g) f h → Lists m.steps it l
     → Lists (parts_as coalesce_parts (coalesce_contract g m)).steps s (coalesced h l)

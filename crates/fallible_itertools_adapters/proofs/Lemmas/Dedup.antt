@@ -10,15 +10,10 @@ use Rattle.fallible_itertools_adapters.specs.Dedup.{dedup_contract, dedup_due, d
 use Rattle.fallible_itertools_adapters.specs.Laws.Dedup.{dedup_plan_buffers}
 use Rattle.fallible_itertools_adapters.specs.Plan.{Making, calls_nothing}
 use Rattle.fallible_itertools_adapters.specs.Staged.{as_function, followed}
-use Rattle.fallible_itertools_adapters.specs.Staging.{Made, stop_comes}
+use Rattle.fallible_itertools_adapters.specs.Staging.{stop_comes}
 use Rattle.fallible_itertools_adapters.proofs.Lemmas.BeforeStop.{Apart, adjacent_items_apart, end_before_stop, hints_where_one_held, parted_by_failure}
 use Rattle.fallible_itertools_adapters.proofs.Lemmas.Staged.{gives_plan}
 use Rattle.fallible_itertools_adapters.specs.declared.dedup.Dedup.{Dedup}
-
--- what is held differs from the item before it
-abbrev After : {A : Type 0} → (A → A → Bool) → A → Option A → Type 0
-After eq z None = ⊥
-After eq z (Some y) = eq z y ≡ false
 
 module _ {A : Type 0} (E : Type 0) (eq : A → A → Bool) where
   -- ---- its equations
@@ -56,23 +51,17 @@ module _ {A : Type 0} (E : Type 0) (eq : A → A → Bool) where
   abbrev made_of : Option A → A → Making (Option A × Unit {0}) A (Option E) E
   made_of held x = followed (as_function (λ u. u)) (dedup_plan eq held x) tt
 
-  abbrev ApartHere : Option A → Made A (Option E) E → Option A → Type 0
-  ApartHere = Apart {E = E} (λ u. u) (dedup_plan eq) (λ held. held) (λ held. None) (λ x y. eq x y ≡ false) (λ held. ⊤) (After eq)
-
-  unless_same_apart : (y x : A) (b : Bool) → eq y x ≡ b → ApartHere (Some y) (unless_same y x b).0 (unless_same {E = E} y x b).1
+  unless_same_apart : (y x : A) (b : Bool) → eq y x ≡ b → Apart (λ x y. eq x y ≡ false) (Some y) (unless_same {E = E} y x b).0 (unless_same {E = E} y x b).1
   unless_same_apart y x true is = λ z after. after
   unless_same_apart y x false is = (is, λ z after. after)
 
   pub deduped_differ : (l : List (Result A E)) → AdjacentItems (λ x y. eq x y ≡ false) (deduped eq l)
   unfolding deduped
-  deduped_differ l = adjacent_items_apart (λ u. u) (dedup_plan eq) (λ held. held) (λ held. None) (λ x y. eq x y ≡ false) (λ held. ⊤) (After eq) at_item (λ held x good. tt) at_stop (λ held. tt) l None tt
+  deduped_differ l = adjacent_items_apart (λ u. u) (dedup_plan eq) (λ held. held) (λ held. None) (λ x y. eq x y ≡ false) (λ held. ⊤) at_item (λ held x good. tt) (λ held. tt) l None tt
     where
-      at_item : (held : Option A) (x : A) → ⊤ → ApartHere held (made_of held x).0 (made_of held x).1.0
+      at_item : (held : Option A) (x : A) → ⊤ → Apart (λ x y. eq x y ≡ false) held (made_of held x).0 (made_of held x).1.0
       at_item None x good = λ z after. absurd after
       at_item (Some y) x good = unless_same_apart y x (eq y x) refl
-
-      at_stop : (held : Option A) (y z : A) → held ≡ Some y → After eq z held → eq z y ≡ false
-      at_stop held y z is after = (rw is at after)
 
 pub lists_deduped : {S A E : Type 0} {it : S} (m : Contract S A E) (eq : A → A → Bool) (s : Dedup S A E) (l : List (Result A E)) → dedup_parts s ≡ (it, ((None, tt), None)) → Lists m.steps it l → Lists (parts_as dedup_parts (dedup_contract eq m)).steps s (deduped eq l)
 unfolding deduped

@@ -14,7 +14,7 @@ use Rattle.fallible_itertools_adapters.specs.DedupBy.{dedup_by_contract, dedup_b
 use Rattle.fallible_itertools_adapters.specs.Laws.DedupBy.{dedup_by_plan_buffers}
 use Rattle.fallible_itertools_adapters.specs.Plan.{Making, plan_can}
 use Rattle.fallible_itertools_adapters.specs.Staged.{as_function, followed}
-use Rattle.fallible_itertools_adapters.specs.Staging.{Made, stop_comes}
+use Rattle.fallible_itertools_adapters.specs.Staging.{stop_comes}
 use Rattle.fallible_itertools_adapters.proofs.Lemmas.BeforeStop.{Apart, adjacent_items_apart, end_before_stop, hints_where_one_held, parted_by_failure}
 use Rattle.fallible_itertools_adapters.proofs.Lemmas.Staged.{gives_plan}
 use Rattle.fallible_itertools_adapters.specs.declared.dedup_by.DedupBy.{DedupBy}
@@ -65,29 +65,18 @@ module _ {A E : Type 0} (h : A → A → Result Bool E) where
   abbrev FoundToDiffer : A → A → Type 0
   FoundToDiffer x y = h x y ≡ Ok false
 
-  -- what is held differs from the item before it
-  abbrev After : A → Option A → Type 0
-  After z None = ⊥
-  After z (Some y) = FoundToDiffer z y
-
-  abbrev ApartHere : Option A → Made A (Option E) E → Option A → Type 0
-  ApartHere = Apart {E = E} on_both dedup_by_plan (λ held. held) (λ held. None) FoundToDiffer (λ held. ⊤) After
-
-  same_by_apart : (y x : A) (v : Result Bool E) → h y x ≡ v → ApartHere (Some y) (same_by y x v).0 (same_by y x v).1
+  same_by_apart : (y x : A) (v : Result Bool E) → h y x ≡ v → Apart FoundToDiffer (Some y) (same_by y x v).0 (same_by y x v).1
   same_by_apart y x (Ok true) is = λ z after. after
   same_by_apart y x (Ok false) is = (is, λ z after. after)
   same_by_apart y x (Err e) is = λ z after. after
 
   pub adjacent_deduped_by_differ : (l : List (Result A E)) → AdjacentItems (λ x y. h x y ≡ Ok false) (deduped_by h l)
   unfolding deduped_by
-  adjacent_deduped_by_differ l = adjacent_items_apart on_both dedup_by_plan (λ held. held) (λ held. None) FoundToDiffer (λ held. ⊤) After at_item (λ held x good. tt) at_stop (λ held. tt) l None tt
+  adjacent_deduped_by_differ l = adjacent_items_apart on_both dedup_by_plan (λ held. held) (λ held. None) FoundToDiffer (λ held. ⊤) at_item (λ held x good. tt) (λ held. tt) l None tt
     where
-      at_item : (held : Option A) (x : A) → ⊤ → ApartHere held (made_of held x).0 (made_of held x).1.0
+      at_item : (held : Option A) (x : A) → ⊤ → Apart FoundToDiffer held (made_of held x).0 (made_of held x).1.0
       at_item None x good = λ z after. absurd after
       at_item (Some y) x good = same_by_apart y x (h y x) refl
-
-      at_stop : (held : Option A) (y z : A) → held ≡ Some y → After z held → FoundToDiffer z y
-      at_stop held y z is after = (rw is at after)
 
 pub lists_deduped_by : {S A F E : Type 0} {it : S} (m : Contract S A E) (g : Mut F (Bor A × (Bor A × Unit {0})) (Result Bool E)) (s : DedupBy S F A E) (f : F) (h : A → A → Result Bool E) (l : List (Result A E)) → dedup_by_parts s ≡ (it, ((None, f), None)) → ActsWith (call_at_two g) f h → Lists m.steps it l
     → Lists (parts_as dedup_by_parts (dedup_by_contract g m)).steps s (deduped_by h l)

@@ -60,17 +60,13 @@ module _ {A K E : Type 0} (eq : K → K → Bool) (h : A → Result K E) where
   abbrev Differ : A → A → Type 0
   Differ x y = HaveKeys h (λ k j. eq k j ≡ false) x y
 
-  -- what is held has its key, and it differs from the item before it
+  -- what is held has its key
   abbrev IsKeyed : Option (K × A) → Type 0
   IsKeyed None = ⊤
   IsKeyed (Some p) = h p.1 ≡ Ok p.0
 
-  abbrev After : A → Option (K × A) → Type 0
-  After z None = ⊥
-  After z (Some p) = Differ z p.1
-
   abbrev ApartHere : Option (K × A) → Made A (Option E) E → Option (K × A) → Type 0
-  ApartHere = Apart {E = E} h (dedup_key_plan eq) keyed_item (λ held. None) Differ IsKeyed After
+  ApartHere held made k = Apart Differ (keyed_item held) made (keyed_item k)
 
   unless_same_key_apart : (p : K × A) (x : A) (k : K) (b : Bool) → eq p.0 k ≡ b → h p.1 ≡ Ok p.0 → h x ≡ Ok k → ApartHere (Some p) (unless_same_key eq p (k, x) b).0 (unless_same_key eq {E = E} p (k, x) b).1 × IsKeyed (unless_same_key eq {E = E} p (k, x) b).1
   unless_same_key_apart p x k true is keyed also = ((λ z after. after), keyed)
@@ -82,13 +78,9 @@ module _ {A K E : Type 0} (eq : K → K → Bool) (h : A → Result K E) where
   keyed_apart None x (Ok k) is keyed = ((λ z after. absurd after), is)
   keyed_apart (Some p) x (Ok k) is keyed = unless_same_key_apart p x k (eq p.0 k) refl keyed is
 
-  apart_at_stop : (held : Option (K × A)) (y z : A) → keyed_item held ≡ Some y → After z held → Differ z y
-  apart_at_stop None y z is after = absurd after
-  apart_at_stop (Some p) y z is after = let same : p.1 ≡ y = cc in (rw same at after)
-
   pub adjacent_deduped_by_key_differ : (l : List (Result A E)) → AdjacentItems Differ (deduped_by_key eq h l)
   unfolding deduped_by_key
-  adjacent_deduped_by_key_differ l = adjacent_items_apart h (dedup_key_plan eq) keyed_item (λ held. None) Differ IsKeyed After (λ held x keyed. (keyed_apart held x (h x) refl keyed).0) (λ held x keyed. (keyed_apart held x (h x) refl keyed).1) apart_at_stop (λ held. tt) l None tt
+  adjacent_deduped_by_key_differ l = adjacent_items_apart h (dedup_key_plan eq) keyed_item (λ held. None) Differ IsKeyed (λ held x keyed. (keyed_apart held x (h x) refl keyed).0) (λ held x keyed. (keyed_apart held x (h x) refl keyed).1) (λ held. tt) l None tt
 
 pub lists_deduped_by_key : {S A K F E : Type 0} {it : S} (m : Contract S A E) (eq : K → K → Bool) (g : Mut F (Bor A × Unit {0}) (Result K E)) (s : DedupByKey S K F A E) (f : F) (h : A → Result K E) (l : List (Result A E)) → dedup_by_key_parts s ≡ (it, ((None, f), None)) → Acts (call_by_reference g) f h → Lists m.steps it l
     → Lists (parts_as dedup_by_key_parts (dedup_by_key_contract eq g m)).steps s (deduped_by_key eq h l)
