@@ -87,7 +87,7 @@ module _ {A K E : Type 0} (eq : K → K → Bool) where
   first_of_key keys x k true = (None, keys)
   first_of_key keys x k false = (Some (Ok x), k ∷ keys)
 
-  -- the same by what makes the key; a failure of it stands in the item's place
+  -- the same by the key as it was made; where that failed, its failure stands in the item's place
   abbrev pub by_key_made : List K → A → Result K E → Option (Result A E) × List K
   by_key_made keys x (Ok k) = first_of_key keys x k (is_member eq keys k)
   by_key_made keys x (Err e) = (Some (Err e), keys)
