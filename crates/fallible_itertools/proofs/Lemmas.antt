@@ -62,6 +62,7 @@ pub use Rattle.fallible_itertools_adapters.proofs.Lemmas.Plan
 pub use Rattle.fallible_itertools_adapters.proofs.Lemmas.PlanHints
 pub use Rattle.fallible_itertools_adapters.proofs.Lemmas.Positions
 pub use Rattle.fallible_itertools_adapters.proofs.Lemmas.RunCounts
+pub use Rattle.fallible_itertools_adapters.proofs.Lemmas.Sieved
 pub use Rattle.fallible_itertools_adapters.proofs.Lemmas.Staged
 pub use Rattle.fallible_itertools_adapters.proofs.Lemmas.StagedMade
 pub use Rattle.fallible_itertools_adapters.proofs.Lemmas.Staging

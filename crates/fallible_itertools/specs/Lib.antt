@@ -53,6 +53,7 @@ pub use Rattle.fallible_itertools_adapters.specs.PeekingTakeWhile
 pub use Rattle.fallible_itertools_adapters.specs.Plan
 pub use Rattle.fallible_itertools_adapters.specs.Positions
 pub use Rattle.fallible_itertools_adapters.specs.RunCounts
+pub use Rattle.fallible_itertools_adapters.specs.Sieved
 pub use Rattle.fallible_itertools_adapters.specs.Staged
 pub use Rattle.fallible_itertools_adapters.specs.Staging
 pub use Rattle.fallible_itertools_adapters.specs.StopAfter

@@ -31,6 +31,7 @@ pub mod Plan
 pub mod PlanHints
 pub mod Positions
 pub mod RunCounts
+pub mod Sieved
 pub mod Staged
 pub mod StagedMade
 pub mod Staging

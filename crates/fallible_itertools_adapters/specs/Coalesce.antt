@@ -6,7 +6,7 @@ use Rattle.fallible_iterator.specs.Contract.{Contract, Inverse}
 use Rattle.fallible_iterator.specs.Folds.{call_with, takes_with}
 use Rattle.fallible_itertools_adapters.specs.BeforeStop.{held_hints, held_one}
 use Rattle.fallible_itertools_adapters.specs.Dedup.{dedup_stops}
-use Rattle.fallible_itertools_adapters.specs.Plan.{Making, Plan, bounded, call_on_pair, calls, closure_contract, makes, plan_meets, takes_pair}
+use Rattle.fallible_itertools_adapters.specs.Plan.{Making, Plan, bounded, calls, closure_contract, makes, plan_meets}
 use Rattle.fallible_itertools_adapters.specs.Staged.{as_function, plan_does, staged}
 use Rattle.fallible_itertools_adapters.specs.Staging.{StagedTrace, one_made, stop_comes}
 use Rattle.fallible_itertools_adapters.specs.declared.coalesce.Coalesce.{Coalesce}
@@ -30,10 +30,10 @@ coalesce_plan (Some y) x = calls (y, x) coalesced_by
 module _ {A F E : Type 0} (g : Mut F (A × (A × Unit {0})) (OneOrBoth A E)) where
   -- a call on both; and where it may be made
   abbrev pub coalesce_call : F → A × A → OneOrBoth A E → F → Type 0
-  coalesce_call = call_on_pair (call_with g)
+  coalesce_call f both v after = call_with g f both.0 both.1 v after
 
   abbrev pub coalesce_takes : F → A × A → Type 0
-  coalesce_takes = takes_pair (takes_with g)
+  coalesce_takes f both = takes_with g f both.0 both.1
 
   -- `Coalesce`: adjacent items put together, each where the next one that isn't put to it stands or a stop; the closure's failure is a stop.
   abbrev pub CoalesceTrace : {S : Type 0} → (S → List (Answered A E) → S → Type 0) → S × ((Option A × F) × Option (Option E)) → List (Answered A E) → S × ((Option A × F) × Option (Option E)) → Type 0

@@ -7,7 +7,7 @@ use Rattle.fallible_iterator.specs.Contract.{Contract, Inverse}
 use Rattle.fallible_iterator.specs.Picking.{call_at_two, takes_at_two}
 use Rattle.fallible_itertools_adapters.specs.BeforeStop.{held_hints, held_one}
 use Rattle.fallible_itertools_adapters.specs.Dedup.{dedup_stops, unless_same}
-use Rattle.fallible_itertools_adapters.specs.Plan.{Making, Plan, bounded, call_on_pair, calls, closure_contract, makes, plan_meets, takes_pair}
+use Rattle.fallible_itertools_adapters.specs.Plan.{Making, Plan, bounded, calls, closure_contract, makes, plan_meets}
 use Rattle.fallible_itertools_adapters.specs.Staged.{as_function, plan_does, staged}
 use Rattle.fallible_itertools_adapters.specs.Staging.{StagedTrace, stop_comes}
 use Rattle.fallible_itertools_adapters.specs.declared.dedup_by.DedupBy.{DedupBy}
@@ -26,10 +26,10 @@ dedup_by_plan (Some y) x = calls (y, x) (same_by y x)
 module _ {A F E : Type 0} (g : Mut F (Bor A × (Bor A × Unit {0})) (Result Bool E)) where
   -- a call on references to both; and where it may be made
   abbrev pub same_call : F → A × A → Result Bool E → F → Type 0
-  same_call = call_on_pair (call_at_two g)
+  same_call f both v after = call_at_two g f both.0 both.1 v after
 
   abbrev pub same_takes : F → A × A → Type 0
-  same_takes = takes_pair (takes_at_two g)
+  same_takes f both = takes_at_two g f both.0 both.1
 
   -- `DedupBy`: the first of adjacent items that are the same, each where the next one that differs stands or a stop; the closure's failure is a stop.
   abbrev pub DedupByTrace : {S : Type 0} → (S → List (Answered A E) → S → Type 0) → S × ((Option A × F) × Option (Option E)) → List (Answered A E) → S × ((Option A × F) × Option (Option E)) → Type 0

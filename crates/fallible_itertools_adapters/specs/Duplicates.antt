@@ -1,5 +1,5 @@
 -- `Duplicates`, which yields each item that equals exactly one before it.
-use Rattle.std.specs.Prelude.{◌≡◌, Bool, true, false, nat_eq, Option, Some, None, Result, Ok, Err, List, [], ◌∷◌, ⊤}
+use Rattle.std.specs.Prelude.{◌≡◌, Bool, true, false, nat_eq, Option, Some, None, Result, Ok, List, [], ◌∷◌, ⊤}
 use Rattle.std.specs.HashMap.{HashMap, IsUnchanged, Updates, get, spare}
 use Rattle.std.specs.declared.hash.BuildHasherDefault.{BuildHasherDefault}
 use Rattle.std.specs.declared.hash.FoldHasher.{FoldHasher}
@@ -10,6 +10,7 @@ use Rattle.fallible_iterator.specs.Hints.{upper_alone}
 use Rattle.fallible_iterator.specs.Making.{IsRefusal}
 use Rattle.fallible_iterator.specs.Passing.{PassTrace, leaving_out_contract}
 use Rattle.fallible_itertools_adapters.specs.Outcomes.{as_answered_item}
+use Rattle.fallible_itertools_adapters.specs.Sieved.{sieved}
 use Rattle.std.specs.declared.alloc.AllocError.{AllocError}
 use Rattle.fallible_iterator.specs.Outcome.{Outcome}
 use Rattle.fallible_iterator.specs.Outcome.TheVariants.{Kept, LeftOut, Failure, End}
@@ -64,19 +65,16 @@ duplicates_made = record { make = λ p. record { it = p.0; came = p.1 }; made = 
 
 -- ---- what it lists
 
-module _ {A E : Type 0} where
-  -- an item before what comes after it, if it equals exactly one before it
-  abbrev pub second_of_equal : A → Bool → List (Result A E) → List (Result A E)
-  second_of_equal x true rest = Ok x ∷ rest
-  second_of_equal x false rest = rest
+-- an item, if exactly one before it equals it
+abbrev pub second_of_equal : {A E : Type 0} → A → Bool → Option (Result A E)
+second_of_equal x true = Some (Ok x)
+second_of_equal x false = None
 
 module _ {A E : Type 0} (eq : A → A → Bool) where
-  -- the items that equal exactly one of those that came or of those before them; failures stay, and part nothing
-  unfoldable pub duplicates_from : List A → List (Result A E) → List (Result A E)
-  duplicates_from came [] = []
-  duplicates_from came (Ok x ∷ l) = second_of_equal x (nat_eq (count_by (eq x) came) 1) (duplicates_from (x ∷ came) l)
-  duplicates_from came (Err e ∷ l) = Err e ∷ duplicates_from came l
+  -- the same after the items that came, and these with it
+  abbrev pub second_of : List A → A → Option (Result A E) × List A
+  second_of came x = (second_of_equal x (nat_eq (count_by (eq x) came) 1), x ∷ came)
 
   -- the items that equal exactly one before them; failures stay, and part nothing
   unfoldable pub duplicates_of : List (Result A E) → List (Result A E)
-  duplicates_of l = duplicates_from [] l
+  duplicates_of l = sieved second_of [] l

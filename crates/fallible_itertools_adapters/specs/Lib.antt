@@ -25,6 +25,7 @@ pub mod PeekingTakeWhile
 pub mod Plan
 pub mod Positions
 pub mod RunCounts
+pub mod Sieved
 pub mod Staged
 pub mod Staging
 pub mod StopAfter

@@ -23,13 +23,6 @@ passes h stop = (one_made (stop_answer stop), h)
 abbrev pub calls_nothing : {F Q R : Type 0} → F → Q → R → F → Type 0
 calls_nothing f q v g = ⊥
 
--- a call on two values, as one on their pair; and where it may be made
-abbrev pub call_on_pair : {F A B R : Type 0} → (F → A → B → R → F → Type 0) → F → A × B → R → F → Type 0
-call_on_pair call f both v g = call f both.0 both.1 v g
-
-abbrev pub takes_pair : {F A B : Type 0} → (F → A → B → Type 0) → F → A × B → Type 0
-takes_pair takes f both = takes f both.0 both.1
-
 -- this is made, and this is held then
 abbrev pub Makes : {H B L E : Type 0} → Making H B L E → Made B L E → H → Type 0
 Makes t made h = (made ≡ t.0) × (h ≡ t.1)

@@ -1,15 +1,15 @@
 -- `Unique`, which yields each item that equals none before it.
-use Rattle.std.specs.Prelude.{◌≡◌, Bool, true, false, Result, Ok, Err, List, [], ◌∷◌, ⊤, ◌⊎◌}
+use Rattle.std.specs.Prelude.{◌≡◌, Bool, true, false, Result, Ok, List, ⊤, ◌⊎◌}
 use Rattle.std.specs.HashSet.{HashSet, IsUnchanged, Updates, contains, spare}
 use Rattle.std.specs.declared.hash.BuildHasherDefault.{BuildHasherDefault}
 use Rattle.std.specs.declared.hash.FoldHasher.{FoldHasher}
-use Rattle.std.specs.Set.{is_member}
 use Rattle.fallible_iterator.specs.Traces.{Answered}
 use Rattle.fallible_iterator.specs.Contract.{Contract, Inverse}
 use Rattle.fallible_iterator.specs.Hints.{upper_alone}
 use Rattle.fallible_iterator.specs.Making.{IsRefusal}
 use Rattle.fallible_iterator.specs.Passing.{PassTrace, leaving_out_contract}
 use Rattle.fallible_itertools_adapters.specs.Outcomes.{as_answered_item}
+use Rattle.fallible_itertools_adapters.specs.UniqueBy.{unique_by_key}
 use Rattle.std.specs.declared.alloc.AllocError.{AllocError}
 use Rattle.fallible_iterator.specs.Outcome.{Outcome}
 use Rattle.fallible_iterator.specs.Outcome.TheVariants.{Kept, LeftOut, Failure, End}
@@ -63,19 +63,6 @@ unique_made = record { make = λ p. record { it = p.0; seen = p.1 }; made = λ s
 
 -- ---- what it lists
 
-module _ {A E : Type 0} where
-  -- an item before what comes after it, unless it equals one before it
-  abbrev pub first_of_equal : A → Bool → List (Result A E) → List (Result A E) → List (Result A E)
-  first_of_equal x true same other = same
-  first_of_equal x false same other = Ok x ∷ other
-
-module _ {A E : Type 0} (eq : A → A → Bool) where
-  -- the items that equal none of those seen and none before them; failures stay, and part nothing
-  unfoldable pub unique_from : List A → List (Result A E) → List (Result A E)
-  unique_from seen [] = []
-  unique_from seen (Ok x ∷ l) = first_of_equal x (is_member eq seen x) (unique_from seen l) (unique_from (x ∷ seen) l)
-  unique_from seen (Err e ∷ l) = Err e ∷ unique_from seen l
-
-  -- of equal items the first; failures stay, and part nothing
-  unfoldable pub unique_of : List (Result A E) → List (Result A E)
-  unique_of l = unique_from [] l
+-- of equal items the first: the first of each key, where an item is its own key; failures stay, and part nothing
+unfoldable pub unique_of : {A E : Type 0} → (A → A → Bool) → List (Result A E) → List (Result A E)
+unique_of eq l = unique_by_key eq (λ x. Ok x) l

@@ -1,5 +1,5 @@
 -- `UniqueBy`, which yields the first item of each key.
-use Rattle.std.specs.Prelude.{◌≡◌, Bool, true, false, Result, Ok, Err, List, [], ◌∷◌}
+use Rattle.std.specs.Prelude.{◌≡◌, Bool, true, false, Option, Some, None, Result, Ok, Err, List, [], ◌∷◌}
 use Rattle.std.specs.Fn.{Mut}
 use Rattle.std.specs.Borrow.{Bor}
 use Rattle.std.specs.HashSet.{HashSet, IsUnchanged, Updates, contains, spare}
@@ -13,7 +13,7 @@ use Rattle.fallible_iterator.specs.Hints.{upper_alone}
 use Rattle.fallible_iterator.specs.Making.{IsRefusal}
 use Rattle.fallible_iterator.specs.Passing.{PassTrace, leaving_out_contract}
 use Rattle.fallible_itertools_adapters.specs.Outcomes.{as_answered_item}
-use Rattle.fallible_itertools_adapters.specs.Unique.{first_of_equal}
+use Rattle.fallible_itertools_adapters.specs.Sieved.{sieved}
 use Rattle.std.specs.declared.alloc.AllocError.{AllocError}
 use Rattle.fallible_iterator.specs.Outcome.{Outcome}
 use Rattle.fallible_iterator.specs.Outcome.TheVariants.{Kept, LeftOut, Failure, End}
@@ -82,20 +82,19 @@ unique_by_made = record { make = λ p. record { it = p.0; keying = p.1 }; made =
 -- ---- what it lists
 
 module _ {A K E : Type 0} (eq : K → K → Bool) where
-  -- an item before what comes after it, unless its key equals one before it; or the failure in its place; `rest` is the list of what comes after those keys
-  abbrev pub first_of_key : List K → A → Result K E → (List K → List (Result A E)) → List (Result A E)
-  first_of_key keys x (Ok k) rest = first_of_equal x (is_member eq keys k) (rest keys) (rest (k ∷ keys))
-  first_of_key keys x (Err e) rest = Err e ∷ rest keys
+  -- an item of the key k, unless one of those keys equals it; and the keys then
+  abbrev pub first_of_key : List K → A → K → Bool → Option (Result A E) × List K
+  first_of_key keys x k true = (None, keys)
+  first_of_key keys x k false = (Some (Ok x), k ∷ keys)
 
-  -- what `unique_by_key` makes of the list after items with those keys
-  unfoldable pub unique_key_from : (A → Result K E) → List K → List (Result A E) → List (Result A E)
-  unique_key_from h keys [] = []
-  unique_key_from h keys (Ok x ∷ l) = first_of_key keys x (h x) (λ more. unique_key_from h more l)
-  unique_key_from h keys (Err e ∷ l) = Err e ∷ unique_key_from h keys l
+  -- the same by the key as it was made; where that failed, its failure stands in the item's place
+  abbrev pub by_key_made : List K → A → Result K E → Option (Result A E) × List K
+  by_key_made keys x (Ok k) = first_of_key keys x k (is_member eq keys k)
+  by_key_made keys x (Err e) = (Some (Err e), keys)
 
   -- The first item of each key, which h makes; where h fails, its failure in the item's place. Failures stay, and part nothing.
   unfoldable pub unique_by_key : (A → Result K E) → List (Result A E) → List (Result A E)
-  unique_by_key h l = unique_key_from h [] l
+  unique_by_key h l = sieved (λ keys x. by_key_made keys x (h x)) [] l
 
 -- ---- what its law is stated by
 

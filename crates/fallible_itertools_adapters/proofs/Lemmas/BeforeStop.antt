@@ -9,7 +9,7 @@ use Rattle.fallible_iterator.proofs.Lemmas.Hints.Drawn.{brackets_seen, brackets_
 use Rattle.fallible_iterator.proofs.Lemmas.Hints.Joining.{if_some_fitting_sum_at_least_both}
 use Rattle.fallible_itertools_adapters.specs.Adjacent.{AdjacentItems}
 use Rattle.fallible_itertools_adapters.specs.BeforeStop.{HintsPastFailure, HintsWhereHeld, before_stop, held_hints, held_one, hint_unless_end}
-use Rattle.fallible_itertools_adapters.specs.Laws.Plan.{Always, ItemWeighs}
+use Rattle.fallible_itertools_adapters.specs.Laws.Plan.{Always, HeldWhereNone, ItemBuffers, NoEnd, always_weaken, failure_buffers}
 use Rattle.fallible_itertools_adapters.specs.Plan.{HintBy, HintPlan, Making, Plan, bounded, calls, makes, plan_hint, plan_meets}
 use Rattle.fallible_itertools_adapters.specs.Staged.{as_function, followed, made_first, plan_does, staged}
 use Rattle.fallible_itertools_adapters.specs.Staging.{EndsInStop, Made, due_total, items_of, made_total, stage_contract, stage_step, stop_comes}
@@ -18,19 +18,7 @@ use Rattle.fallible_itertools_adapters.proofs.Lemmas.PlanHints.{PlanMakes, hints
 use Rattle.fallible_itertools_adapters.proofs.Lemmas.StagingHints.{DueFew, MadeFew, MakesAtMost, MakesNoFewer}
 use Rattle.fallible_itertools_adapters.proofs.Lemmas.StagingLists.{EndMade}
 
--- ---- what an item makes
-
--- no end is an answer, and none is due
-abbrev pub NoEnd : {B E : Type 0} → Made B (Option E) E → Type 0
-NoEnd None = ⊤
-NoEnd (Some (Ok None, due)) = ⊥
-NoEnd (Some (a, Some None)) = ⊥
-NoEnd (Some (a, due)) = ⊤
-
--- a stop ends what comes before it
-pub no_end_before_failure : {B E : Type 0} (kept : Option B) (e : E) → NoEnd (before_stop kept (Some e))
-no_end_before_failure None e = tt
-no_end_before_failure (Some y) e = tt
+-- ---- what a stop makes
 
 -- an end is made of one
 pub end_before_stop : {B : Type 0} (E : Type 0) (kept : Option B) → EndMade (stop_comes {B = B} {E = E}) (before_stop kept None)
@@ -58,6 +46,45 @@ always_of_followed : {Q R H B L E : Type 0} (P : Made B L E → Type 0) (g : Q �
 always_of_followed P g (makes t) is = is
 always_of_followed P g (calls q by) is = is (g q)
 
+-- ---- adjacent items are apart
+
+module _ {B : Type 0} (P : B → B → Type 0) where
+  -- an item is held, and P holds of z and that
+  abbrev pub HoldsOfHeld : B → Option B → Type 0
+  HoldsOfHeld z None = ⊥
+  HoldsOfHeld z (Some y) = P z y
+
+  -- Where P holds of z and what was held, it holds of z and the item that is made, or of z and what is held then if none is made. It also holds of an item that is made and what is held then.
+  abbrev pub Apart : {E : Type 0} → Option B → Made B (Option E) E → Option B → Type 0
+  Apart was None held = (z : B) → HoldsOfHeld z was → HoldsOfHeld z held
+  Apart was (Some (Ok (Some y), None)) held = HoldsOfHeld y held × ((z : B) → HoldsOfHeld z was → P z y)
+  Apart was (Some (Ok (Some y), Some later)) held = (z : B) → HoldsOfHeld z was → P z y
+  Apart was (Some (Ok None, due)) held = ⊤
+  Apart was (Some (Err e, due)) held = ⊤
+
+  module _ {E : Type 0} where
+    next_apart : (was held : Option B) (made : Made B (Option E) E) (rest : List (Result B E)) (z : B) → Apart was made held → HoldsOfHeld z was → (HoldsOfHeld z held → HoldsOfNext P z rest) → HoldsOfNext P z (made_first stop_comes made rest)
+    next_apart was held None rest z apart at next = next (apart z at)
+    next_apart was held (Some (Ok (Some y), None)) rest z apart at next = apart.1 z at
+    next_apart was held (Some (Ok (Some y), Some later)) rest z apart at next = apart z at
+    next_apart was held (Some (Ok None, due)) rest z apart at next = tt
+    next_apart was held (Some (Err e, due)) rest z apart at next = tt
+
+    each_apart : (was held : Option B) (made : Made B (Option E) E) (rest : List (Result B E)) → Apart was made held → ((y : B) → HoldsOfHeld y held → HoldsOfNext P y rest) → EachNext P rest → EachNext P (made_first stop_comes made rest)
+    each_apart was held None rest apart next each = each
+    each_apart was held (Some (Ok (Some y), None)) rest apart next each = (next y apart.0, each)
+    each_apart was held (Some (Ok (Some y), Some None)) rest apart next each = (tt, tt)
+    each_apart was held (Some (Ok (Some y), Some (Some e))) rest apart next each = (tt, each)
+    each_apart was held (Some (Ok None, due)) rest apart next each = tt
+    each_apart was held (Some (Err e, None)) rest apart next each = each
+    each_apart was held (Some (Err e, Some None)) rest apart next each = tt
+    each_apart was held (Some (Err e, Some (Some d))) rest apart next each = each
+
+    apart_at_stop : (was held : Option B) (stop : Option E) → Apart was (before_stop was stop) held
+    apart_at_stop None held None = tt
+    apart_at_stop None held (Some e) = tt
+    apart_at_stop (Some y) held stop = λ z after. after
+
 -- `kept h` is what comes of h at a stop, and `empty h` is held then.
 module _ {Q R H X B E : Type 0} (g : Q → R) (plan : H → X → Plan Q R (Making H B (Option E) E)) (kept : H → Option B) (empty : H → H) where
   abbrev lets_go : H → Option E → Making H B (Option E) E
@@ -66,59 +93,28 @@ module _ {Q R H X B E : Type 0} (g : Q → R) (plan : H → X → Plan Q R (Maki
   abbrev list_from : H → List (Result X E) → List (Result B E)
   list_from h l = staged stop_comes (plan_does (as_function g) plan lets_go) (h, tt) l
 
-  module _ (none : H) (settles : (h : H) → empty h ≡ none) (no_end : (h : H) (x : X) → Always (λ t. NoEnd t.0) (plan h x)) where
+  module _ (none : H) (settles : (h : H) → empty h ≡ none) (held : H → ℕ) (buffers : (h : H) (x : X) → Always (λ t. ItemBuffers held h t) (plan h x)) where
     -- What stands before a failure is listed by itself, and so is what comes after it.
     pub parted_by_failure : (h : H) (l : List (Result X E)) (e : E) (k : List (Result X E)) → list_from h (l ++ Err e ∷ k) ≡ list_from h l ++ Err e ∷ list_from none k
     parted_by_failure h [] e k = before_failure_first (list_from (empty h) k) (kept h) e ∙ ap (λ (n : H). list_from h [] ++ Err e ∷ list_from n k) (settles h)
-    parted_by_failure h (Ok x ∷ l) e k = let t = followed (as_function g) (plan h x) tt in ap (λ j. made_first stop_comes t.0 j) (parted_by_failure t.1.0 l e k) ∙ made_first_append (Err e ∷ list_from none k) t.0 (list_from t.1.0 l) (always_of_followed (λ m. NoEnd m) g (plan h x) (no_end h x))
-    parted_by_failure h (Err d ∷ l) e k = ap (λ j. made_first stop_comes (before_stop (kept h) (Some d)) j) (parted_by_failure (empty h) l e k) ∙ made_first_append (Err e ∷ list_from none k) (before_stop (kept h) (Some d)) (list_from (empty h) l) (no_end_before_failure (kept h) d)
+    parted_by_failure h (Ok x ∷ l) e k = let t = followed (as_function g) (plan h x) tt in ap (λ j. made_first stop_comes t.0 j) (parted_by_failure t.1.0 l e k) ∙ made_first_append (Err e ∷ list_from none k) t.0 (list_from t.1.0 l) (always_of_followed (λ m. NoEnd m) g (plan h x) (always_weaken (λ t is. is.1) (plan h x) (buffers h x)))
+    parted_by_failure h (Err d ∷ l) e k = ap (λ j. made_first stop_comes (before_stop (kept h) (Some d)) j) (parted_by_failure (empty h) l e k) ∙ made_first_append (Err e ∷ list_from none k) (before_stop (kept h) (Some d)) (list_from (empty h) l) (failure_buffers held_one (kept h) None (kept h) d (omega arith) refl).1
 
   -- ---- adjacent items are apart
 
-  -- `After z h` says that what comes of h may stand after z. What is made keeps so, and P holds of z and an item that is made.
-  module _ (P : B → B → Type 0) (Good : H → Type 0) (After : B → H → Type 0) where
-    abbrev pub Apart : H → Made B (Option E) E → H → Type 0
-    Apart h None k = (z : B) → After z h → After z k
-    Apart h (Some (Ok (Some y), None)) k = After y k × ((z : B) → After z h → P z y)
-    Apart h (Some (Ok (Some y), Some later)) k = (z : B) → After z h → P z y
-    Apart h (Some (Ok None, due)) k = ⊤
-    Apart h (Some (Err e, due)) k = ⊤
+  module _ (P : B → B → Type 0) (Good : H → Type 0) (at_item : (h : H) (x : X) → Good h → Apart P (kept h) (followed (as_function g) (plan h x) tt).0 (kept (followed (as_function g) (plan h x) tt).1.0)) (good_at_item : (h : H) (x : X) → Good h → Good (followed (as_function g) (plan h x) tt).1.0) (good_at_stop : (h : H) → Good (empty h)) where
+    next_of_list : (l : List (Result X E)) (h : H) (z : B) → Good h → HoldsOfHeld P z (kept h) → HoldsOfNext P z (list_from h l)
+    next_of_list [] h z good after = next_apart P (kept h) (kept (empty h)) (before_stop (kept h) None) [] z (apart_at_stop P (kept h) _ None) after (λ at. tt)
+    next_of_list (Ok x ∷ l) h z good after = let t = followed (as_function g) (plan h x) tt in next_apart P (kept h) (kept t.1.0) t.0 (list_from t.1.0 l) z (at_item h x good) after (next_of_list l t.1.0 z (good_at_item h x good))
+    next_of_list (Err e ∷ l) h z good after = next_apart P (kept h) (kept (empty h)) (before_stop (kept h) (Some e)) (list_from (empty h) l) z (apart_at_stop P (kept h) _ (Some e)) after (next_of_list l (empty h) z (good_at_stop h))
 
-    next_apart : (h : H) (made : Made B (Option E) E) (k : H) (rest : List (Result B E)) (z : B) → Apart h made k → After z h → (After z k → HoldsOfNext P z rest) → HoldsOfNext P z (made_first stop_comes made rest)
-    next_apart h None k rest z apart at next = next (apart z at)
-    next_apart h (Some (Ok (Some y), None)) k rest z apart at next = apart.1 z at
-    next_apart h (Some (Ok (Some y), Some later)) k rest z apart at next = apart z at
-    next_apart h (Some (Ok None, due)) k rest z apart at next = tt
-    next_apart h (Some (Err e, due)) k rest z apart at next = tt
+    each_of_list : (l : List (Result X E)) (h : H) → Good h → EachNext P (list_from h l)
+    each_of_list [] h good = each_apart P (kept h) (kept (empty h)) (before_stop (kept h) None) [] (apart_at_stop P (kept h) _ None) (λ y at. tt) tt
+    each_of_list (Ok x ∷ l) h good = let t = followed (as_function g) (plan h x) tt in let then = good_at_item h x good in each_apart P (kept h) (kept t.1.0) t.0 (list_from t.1.0 l) (at_item h x good) (λ y after. next_of_list l t.1.0 y then after) (each_of_list l t.1.0 then)
+    each_of_list (Err e ∷ l) h good = let then = good_at_stop h in each_apart P (kept h) (kept (empty h)) (before_stop (kept h) (Some e)) (list_from (empty h) l) (apart_at_stop P (kept h) _ (Some e)) (λ y after. next_of_list l (empty h) y then after) (each_of_list l (empty h) then)
 
-    each_apart : (h : H) (made : Made B (Option E) E) (k : H) (rest : List (Result B E)) → Apart h made k → ((y : B) → After y k → HoldsOfNext P y rest) → EachNext P rest → EachNext P (made_first stop_comes made rest)
-    each_apart h None k rest apart next each = each
-    each_apart h (Some (Ok (Some y), None)) k rest apart next each = (next y apart.0, each)
-    each_apart h (Some (Ok (Some y), Some None)) k rest apart next each = (tt, tt)
-    each_apart h (Some (Ok (Some y), Some (Some e))) k rest apart next each = (tt, each)
-    each_apart h (Some (Ok None, due)) k rest apart next each = tt
-    each_apart h (Some (Err e, None)) k rest apart next each = each
-    each_apart h (Some (Err e, Some None)) k rest apart next each = tt
-    each_apart h (Some (Err e, Some (Some d))) k rest apart next each = each
-
-    module _ (at_item : (h : H) (x : X) → Good h → Apart h (followed (as_function g) (plan h x) tt).0 (followed (as_function g) (plan h x) tt).1.0) (good_at_item : (h : H) (x : X) → Good h → Good (followed (as_function g) (plan h x) tt).1.0) (at_stop : (h : H) (y z : B) → kept h ≡ Some y → After z h → P z y) (good_at_stop : (h : H) → Good (empty h)) where
-      apart_at_stop : (h : H) (o : Option B) (stop : Option E) → kept h ≡ o → Apart h (before_stop o stop) (empty h)
-      apart_at_stop h None None is = tt
-      apart_at_stop h None (Some e) is = tt
-      apart_at_stop h (Some y) stop is = λ z after. at_stop h y z is after
-
-      next_of_list : (l : List (Result X E)) (h : H) (z : B) → Good h → After z h → HoldsOfNext P z (list_from h l)
-      next_of_list [] h z good after = next_apart h (before_stop (kept h) None) (empty h) [] z (apart_at_stop h (kept h) None refl) after (λ at. tt)
-      next_of_list (Ok x ∷ l) h z good after = let t = followed (as_function g) (plan h x) tt in next_apart h t.0 t.1.0 (list_from t.1.0 l) z (at_item h x good) after (next_of_list l t.1.0 z (good_at_item h x good))
-      next_of_list (Err e ∷ l) h z good after = next_apart h (before_stop (kept h) (Some e)) (empty h) (list_from (empty h) l) z (apart_at_stop h (kept h) (Some e) refl) after (next_of_list l (empty h) z (good_at_stop h))
-
-      each_of_list : (l : List (Result X E)) (h : H) → Good h → EachNext P (list_from h l)
-      each_of_list [] h good = each_apart h (before_stop (kept h) None) (empty h) [] (apart_at_stop h (kept h) None refl) (λ y at. tt) tt
-      each_of_list (Ok x ∷ l) h good = let t = followed (as_function g) (plan h x) tt in let then = good_at_item h x good in each_apart h t.0 t.1.0 (list_from t.1.0 l) (at_item h x good) (λ y after. next_of_list l t.1.0 y then after) (each_of_list l t.1.0 then)
-      each_of_list (Err e ∷ l) h good = let then = good_at_stop h in each_apart h (before_stop (kept h) (Some e)) (empty h) (list_from (empty h) l) (apart_at_stop h (kept h) (Some e) refl) (λ y after. next_of_list l (empty h) y then after) (each_of_list l (empty h) then)
-
-      pub adjacent_items_apart : (l : List (Result X E)) (h : H) → Good h → AdjacentItems P (list_from h l)
-      adjacent_items_apart l h good = adjacent_items_of_each_next P (list_from h l) (each_of_list l h good)
+    pub adjacent_items_apart : (l : List (Result X E)) (h : H) → Good h → AdjacentItems P (list_from h l)
+    adjacent_items_apart l h good = adjacent_items_of_each_next P (list_from h l) (each_of_list l h good)
 
 -- ---- the hint where a stop is due
 
@@ -198,11 +194,6 @@ module _ {H F Q R X B E : Type 0} (call : F → Q → R → F → Type 0) (plan 
 
 -- ---- at least one, where the source has one or one is held
 
--- what makes nothing is held
-abbrev pub HeldWhereNone : {B E : Type 0} → ℕ → Made B (Option E) E → Type 0
-HeldWhereNone held None = 1 ≤ held
-HeldWhereNone held (Some made) = ⊤
-
 module _ {H B : Type 0} (E : Type 0) (kept : H → Option B) (empty : H → H) (held : H → ℕ) (is_held : (h : H) → held h ≡ held_one (kept h)) where
   few_of_made : (t : Making H B (Option E) E) (before low : ℕ) → NoEnd t.0 → HeldWhereNone (held t.1) t.0 → MadeFew stop_comes t.0 (λ n. min ((low - 1) + held t.1) 1 ≤ n) (λ n. min (low + before) 1 ≤ n)
   few_of_made (None, h) before low on one = λ n after. omega (arith, after, one)
@@ -226,20 +217,20 @@ module _ {H B : Type 0} (E : Type 0) (kept : H → Option B) (empty : H → H) (
   at_most_at_stop h (Some y) None is = (omega (arith, is), tt)
   at_most_at_stop h (Some y) (Some e) is = (omega (arith, is), tt)
 
-  always_at_most : {Q R : Type 0} (h : H) (n : ℕ) (t : Plan Q R (Making H B (Option E) E)) → Always (λ v. ItemWeighs stop_comes 1 held h v) t → Always (λ v. made_total stop_comes items_of v.0 + (n + held v.1) ≤ suc n + held h) t
-  always_at_most h n (makes t) w = omega (arith, w.0)
-  always_at_most h n (calls q by) w = λ v. let k = (w v).0 in omega (arith, k)
+  always_at_most : {Q R : Type 0} (h : H) (n : ℕ) (t : Plan Q R (Making H B (Option E) E)) → Always (λ v. ItemBuffers held h v) t → Always (λ v. made_total stop_comes items_of v.0 + (n + held v.1) ≤ suc n + held h) t
+  always_at_most h n (makes t) w = omega (arith, w.0.0)
+  always_at_most h n (calls q by) w = λ v. let k = (w v).0.0 in omega (arith, k)
 
-  always_no_fewer : {Q R : Type 0} (h : H) (low : ℕ) (t : Plan Q R (Making H B (Option E) E)) → Always (λ v. NoEnd v.0) t → Always (λ v. HeldWhereNone (held v.1) v.0) t → Always (λ v. MadeFew stop_comes v.0 (λ n. min ((low - 1) + held v.1) 1 ≤ n) (λ n. min (low + held h) 1 ≤ n)) t
-  always_no_fewer h low (makes t) on one = few_of_made t (held h) low on one
-  always_no_fewer h low (calls q by) on one = λ v. few_of_made (by v) (held h) low (on v) (one v)
+  always_no_fewer : {Q R : Type 0} (h : H) (low : ℕ) (t : Plan Q R (Making H B (Option E) E)) → Always (λ v. ItemBuffers held h v) t → Always (λ v. MadeFew stop_comes v.0 (λ n. min ((low - 1) + held v.1) 1 ≤ n) (λ n. min (low + held h) 1 ≤ n)) t
+  always_no_fewer h low (makes t) w = few_of_made t (held h) low w.1 w.2
+  always_no_fewer h low (calls q by) w = λ v. few_of_made (by v) (held h) low (w v).1 (w v).2
 
-  module _ {F Q R X : Type 0} (call : F → Q → R → F → Type 0) (plan : H → X → Plan Q R (Making H B (Option E) E)) (weighs : (h : H) (x : X) → Always (λ t. ItemWeighs stop_comes 1 held h t) (plan h x)) (no_end : (h : H) (x : X) → Always (λ t. NoEnd t.0) (plan h x)) (one : (h : H) (x : X) → Always (λ t. HeldWhereNone (held t.1) t.0) (plan h x)) where
+  module _ {F Q R X : Type 0} (call : F → Q → R → F → Type 0) (plan : H → X → Plan Q R (Making H B (Option E) E)) (buffers : (h : H) (x : X) → Always (λ t. ItemBuffers held h t) (plan h x)) where
     makes_held : PlanMakes stop_comes call plan (λ h stop. (before_stop (kept h) stop, empty h)) (λ h n. n + held h) (λ h low n. min (low + held h) 1 ≤ n)
     makes_held = record {
-      at_most = λ h x n. always_at_most h n (plan h x) (weighs h x);
+      at_most = λ h x n. always_at_most h n (plan h x) (buffers h x);
       at_most_at_stop = λ h stop. at_most_at_stop h (kept h) stop (is_held h);
-      no_fewer = λ h x low. always_no_fewer h low (plan h x) (no_end h x) (one h x);
+      no_fewer = λ h x low. always_no_fewer h low (plan h x) (buffers h x);
       no_fewer_at_end = λ h. few_at_end h (kept h) (is_held h);
       no_fewer_at_failure = λ h e low. few_at_failure (kept h) e _ _;
     }

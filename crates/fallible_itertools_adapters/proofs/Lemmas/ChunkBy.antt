@@ -1,9 +1,9 @@
 -- What `ChunkBy` makes of its source's answers, and what it lists.
-use Rattle.std.specs.Prelude.{◌≡◌, ℕ, cond, Bool, true, false, Option, Some, None, Result, Ok, Err, List, [], ◌∷◌, ◌++◌, ◌⊎◌, vec_items}
+use Rattle.std.specs.Prelude.{◌≡◌, cond, Bool, true, false, Option, Some, None, Result, Ok, Err, List, [], ◌∷◌, ◌++◌, ◌⊎◌, vec_items}
 use Rattle.std.specs.Fn.{Mut}
 use Rattle.std.specs.Borrow.{Bor}
 use Rattle.std.specs.List.{FoldsTo}
-use Rattle.std.proofs.Common.{refl, sym, ap, subst, inl, inr, arith, ◌∙◌}
+use Rattle.std.proofs.Common.{refl, sym, ap, subst, inl, inr, ◌∙◌}
 use Rattle.fallible_iterator.specs.Traces.{item}
 use Rattle.fallible_iterator.specs.Closures.{IsCallable, Reaches, call_by_reference, takes_by_reference}
 use Rattle.fallible_iterator.specs.Laws.Closures.{reaches_by_call_first, reaches_reflexive}
@@ -14,10 +14,10 @@ use Rattle.fallible_iterator.proofs.Lemmas.Making.{lists_made_seen}
 use Rattle.fallible_itertools_adapters.specs.Batch.{Grown, NoRoom, Put, Puts}
 use Rattle.fallible_itertools_adapters.specs.BeforeStop.{HintsWhereHeld, before_stop, held_one}
 use Rattle.fallible_itertools_adapters.specs.ChunkBy.{Group, KeyedPut, MadeGroup, chunk_by_contract, chunk_by_due, chunk_by_parts, chunk_by_plan, chunk_by_source, chunk_by_stops, chunked_by, group_at, group_by, group_kept, joined, put_by_key, puts_by_key, takes_key}
-use Rattle.fallible_itertools_adapters.specs.Laws.ChunkBy.{group_by_weighs}
+use Rattle.fallible_itertools_adapters.specs.Laws.ChunkBy.{group_by_buffers}
 use Rattle.fallible_itertools_adapters.specs.Plan.{Makes, Making, plan_can}
 use Rattle.fallible_itertools_adapters.specs.Staging.{Made, MayMeet, one_made}
-use Rattle.fallible_itertools_adapters.proofs.Lemmas.BeforeStop.{HeldWhereNone, NoEnd, end_before_stop, hints_where_one_held, no_end_before_failure, parted_by_failure}
+use Rattle.fallible_itertools_adapters.proofs.Lemmas.BeforeStop.{end_before_stop, hints_where_one_held, parted_by_failure}
 use Rattle.fallible_itertools_adapters.proofs.Lemmas.ChunkedBy.{group_by_is_made, group_made, grouped_from_is_never_nil}
 use Rattle.fallible_itertools_adapters.proofs.Lemmas.Plan.{plan_can_where_callable}
 use Rattle.fallible_itertools_adapters.proofs.Lemmas.StagedMade.{HeldMade, MadeAlike, PlansAlike, RefusalAfterHeld, before_stop_made, gives_made_plan}
@@ -104,34 +104,9 @@ lists_up_to_refusal_chunked {E = E} {it = it} m from eq c f h acts s l parts i =
 
 -- ---- its hint, and where it may be called
 
-module _ {K V : Type 0} (E : Type 0) where
-  group_at_ends_nothing : (g : K × V) (k : K) (v : V) (same : Bool) → NoEnd {E = E} (group_at g k v same).0
-  group_at_ends_nothing g k v true = tt
-  group_at_ends_nothing g k v false = tt
-
-  group_ends_nothing : (eq : K → K → Bool) (held : Option (K × V)) (v : KeyedPut K V E) → NoEnd (group_by eq held v).0
-  group_ends_nothing eq None (Ok (k, Ok v)) = tt
-  group_ends_nothing eq (Some g) (Ok (k, Ok v)) = group_at_ends_nothing g k v (eq g.0 k)
-  group_ends_nothing eq held (Ok (k, Err (kept, e))) = no_end_before_failure (group_kept held kept) e
-  group_ends_nothing eq held (Err e) = no_end_before_failure held e
-
-  held_where_failed : (held : Option (K × V)) (e : E) (n : ℕ) → HeldWhereNone n (before_stop held (Some e))
-  held_where_failed None e n = tt
-  held_where_failed (Some g) e n = tt
-
-  group_at_held_where_none : (g : K × V) (k : K) (v : V) (same : Bool) → HeldWhereNone {E = E} (held_one (group_at {E = E} g k v same).1) (group_at g k v same).0
-  group_at_held_where_none g k v true = omega arith
-  group_at_held_where_none g k v false = tt
-
-  group_held_where_none : (eq : K → K → Bool) (held : Option (K × V)) (v : KeyedPut K V E) → HeldWhereNone (held_one (group_by eq held v).1) (group_by eq held v).0
-  group_held_where_none eq None (Ok (k, Ok v)) = omega arith
-  group_held_where_none eq (Some g) (Ok (k, Ok v)) = group_at_held_where_none g k v (eq g.0 k)
-  group_held_where_none eq held (Ok (k, Err (kept, e))) = held_where_failed (group_kept held kept) e _
-  group_held_where_none eq held (Err e) = held_where_failed held e _
-
 module _ {S F A K E : Type 0} (m : Contract S A E) (from : AllocError → E → Type 0) (eq : K → K → Bool) (g : Mut F (Bor A × Unit {0}) (Result K E)) where
   pub hints_chunk_by : HintsWhereHeld (parts_as chunk_by_parts (chunk_by_contract from eq g m)) chunk_by_due m chunk_by_source
-  hints_chunk_by = hints_where_one_held E (λ held. held) (λ held. None) held_one (λ held. refl) (puts_by_key from eq g) (chunk_by_plan eq) (λ held x v. group_by_weighs E eq held v) (λ held x v. group_ends_nothing E eq held v) (λ held x v. group_held_where_none E eq held v) chunk_by_parts m (plan_can (puts_by_key from eq g) (chunk_by_plan eq) chunk_by_stops (takes_key g)) 1
+  hints_chunk_by = hints_where_one_held E (λ held. held) (λ held. None) held_one (λ held. refl) (puts_by_key from eq g) (chunk_by_plan eq) (λ held x v. group_by_buffers E eq held v) chunk_by_parts m (plan_can (puts_by_key from eq g) (chunk_by_plan eq) chunk_by_stops (takes_key g)) 1
 
   key_called : (f h : F) (q : Option (Group K A) × A) (v : KeyedPut K (Vec A Global) E) → puts_by_key from eq g f q v h → (r : Result K E) × call_by_reference g f q.1 r h
   key_called f h q (Ok (k, put)) w = (Ok k, w.0)
@@ -152,4 +127,4 @@ module _ {S F A K E : Type 0} (m : Contract S A E) (from : AllocError → E → 
 -- What stands before a failure is grouped by itself, and so is what comes after it.
 pub chunked_by_in_parts : {A K E : Type 0} (eq : K → K → Bool) (h : A → Result K E) (a : List (Result A E)) (e : E) (b : List (Result A E)) → chunked_by eq h (a ++ Err e ∷ b) ≡ chunked_by eq h a ++ Err e ∷ chunked_by eq h b
 unfolding chunked_by
-chunked_by_in_parts {E = E} eq h a e b = parted_by_failure (λ q. put_by_key eq h q.0 q.1 (h q.1)) (chunk_by_plan eq) (λ held. held) (λ held. None) None (λ held. refl) (λ held x v. group_ends_nothing E eq held v) None a e b
+chunked_by_in_parts {E = E} eq h a e b = parted_by_failure (λ q. put_by_key eq h q.0 q.1 (h q.1)) (chunk_by_plan eq) (λ held. held) (λ held. None) None (λ held. refl) held_one (λ held x v. group_by_buffers E eq held v) None a e b

@@ -1,7 +1,7 @@
 -- What `Coalesce` lists, and its hint.
 use Rattle.std.specs.Prelude.{◌≡◌, ⊤, Option, Some, None, Result, Ok, Err, List, [], ◌∷◌, ◌++◌}
 use Rattle.std.specs.Fn.{Mut}
-use Rattle.std.proofs.Common.{refl, subst, arith}
+use Rattle.std.proofs.Common.{refl, subst}
 use Rattle.fallible_iterator.specs.Contract.{Contract, parts_as}
 use Rattle.fallible_iterator.specs.Folds.{call_with}
 use Rattle.fallible_iterator.specs.Lists.{ActsWith, Lists}
@@ -10,35 +10,13 @@ use Rattle.fallible_itertools_adapters.specs.Adjacent.{AdjacentItems}
 use Rattle.fallible_itertools_adapters.specs.BeforeStop.{HintsWhereHeld, held_one}
 use Rattle.fallible_itertools_adapters.specs.Coalesce.{KeepsApart, OneOrBoth, coalesce_call, coalesce_contract, coalesce_due, coalesce_parts, coalesce_plan, coalesce_source, coalesce_takes, coalesced, coalesced_by}
 use Rattle.fallible_itertools_adapters.specs.Dedup.{dedup_stops}
-use Rattle.fallible_itertools_adapters.specs.Laws.Coalesce.{coalesce_plan_weighs}
-use Rattle.fallible_itertools_adapters.specs.Laws.Plan.{Always}
+use Rattle.fallible_itertools_adapters.specs.Laws.Coalesce.{coalesce_plan_buffers}
 use Rattle.fallible_itertools_adapters.specs.Plan.{Making, plan_can}
 use Rattle.fallible_itertools_adapters.specs.Staged.{as_function, followed}
-use Rattle.fallible_itertools_adapters.specs.Staging.{Made, stop_comes}
-use Rattle.fallible_itertools_adapters.proofs.Lemmas.BeforeStop.{Apart, HeldWhereNone, NoEnd, adjacent_items_apart, end_before_stop, hints_where_one_held, parted_by_failure}
+use Rattle.fallible_itertools_adapters.specs.Staging.{stop_comes}
+use Rattle.fallible_itertools_adapters.proofs.Lemmas.BeforeStop.{Apart, adjacent_items_apart, end_before_stop, hints_where_one_held, parted_by_failure}
 use Rattle.fallible_itertools_adapters.proofs.Lemmas.Staged.{gives_plan}
 use Rattle.fallible_itertools_adapters.specs.declared.coalesce.Coalesce.{Coalesce}
-
--- ---- what an item makes
-
-module _ {A : Type 0} (E : Type 0) where
-  coalesced_by_ends_nothing : (v : OneOrBoth A E) → NoEnd (coalesced_by v).0
-  coalesced_by_ends_nothing (Ok (Ok z)) = tt
-  coalesced_by_ends_nothing (Ok (Err both)) = tt
-  coalesced_by_ends_nothing (Err e) = tt
-
-  ends_nothing : (held : Option A) (x : A) → Always (λ t. NoEnd {E = E} t.0) (coalesce_plan held x)
-  ends_nothing None x = tt
-  ends_nothing (Some y) x = λ v. coalesced_by_ends_nothing v
-
-  coalesced_by_holds : (v : OneOrBoth A E) → HeldWhereNone (held_one (coalesced_by v).1) (coalesced_by v).0
-  coalesced_by_holds (Ok (Ok z)) = omega arith
-  coalesced_by_holds (Ok (Err both)) = tt
-  coalesced_by_holds (Err e) = tt
-
-  holds_where_none : (held : Option A) (x : A) → Always (λ t. HeldWhereNone {E = E} (held_one t.1) t.0) (coalesce_plan held x)
-  holds_where_none None x = omega arith
-  holds_where_none (Some y) x = λ v. coalesced_by_holds v
 
 module _ {A E : Type 0} (h : A → A → OneOrBoth A E) where
   -- ---- its equations
@@ -81,38 +59,27 @@ module _ {A E : Type 0} (h : A → A → OneOrBoth A E) where
 
   pub coalesced_in_parts : (a : List (Result A E)) (e : E) (b : List (Result A E)) → coalesced h (a ++ Err e ∷ b) ≡ coalesced h a ++ Err e ∷ coalesced h b
   unfolding coalesced
-  coalesced_in_parts a e b = parted_by_failure on_both coalesce_plan (λ held. held) (λ held. None) None (λ held. refl) (ends_nothing E) None a e b
+  coalesced_in_parts a e b = parted_by_failure on_both coalesce_plan (λ held. held) (λ held. None) None (λ held. refl) held_one (coalesce_plan_buffers E) None a e b
 
   module _ (keeps : KeepsApart h) where
     abbrev StaysApart : A → A → Type 0
     StaysApart x y = h x y ≡ Ok (Err (x, y))
 
-    -- what is held is kept apart from the item before it
-    abbrev After : A → Option A → Type 0
-    After z None = ⊥
-    After z (Some y) = StaysApart z y
-
-    abbrev ApartHere : Option A → Made A (Option E) E → Option A → Type 0
-    ApartHere = Apart {E = E} on_both coalesce_plan (λ held. held) (λ held. None) StaysApart (λ held. ⊤) After
-
-    both_apart : (y x : A) (both : A × A) → h y x ≡ Ok (Err both) → both ≡ (y, x) → ApartHere (Some y) (coalesced_by (Ok (Err both))).0 (coalesced_by {E = E} (Ok (Err both))).1
+    both_apart : (y x : A) (both : A × A) → h y x ≡ Ok (Err both) → both ≡ (y, x) → Apart StaysApart (Some y) (coalesced_by {E = E} (Ok (Err both))).0 (coalesced_by {E = E} (Ok (Err both))).1
     both_apart y x both is same = rw same ((rw same at is), λ z after. after)
 
-    coalesced_by_apart : (y x : A) (v : OneOrBoth A E) → h y x ≡ v → ApartHere (Some y) (coalesced_by v).0 (coalesced_by v).1
+    coalesced_by_apart : (y x : A) (v : OneOrBoth A E) → h y x ≡ v → Apart StaysApart (Some y) (coalesced_by v).0 (coalesced_by v).1
     coalesced_by_apart y x (Ok (Ok w)) is = λ z after. keeps.stays z y x w after is
     coalesced_by_apart y x (Ok (Err both)) is = both_apart y x both is (keeps.as_they_are y x both is)
     coalesced_by_apart y x (Err e) is = tt
 
     pub adjacent_coalesced_unmerged : (l : List (Result A E)) → AdjacentItems (λ x y. h x y ≡ Ok (Err (x, y))) (coalesced h l)
     unfolding coalesced
-    adjacent_coalesced_unmerged l = adjacent_items_apart on_both coalesce_plan (λ held. held) (λ held. None) StaysApart (λ held. ⊤) After at_item (λ held x good. tt) at_stop (λ held. tt) l None tt
+    adjacent_coalesced_unmerged l = adjacent_items_apart on_both coalesce_plan (λ held. held) (λ held. None) StaysApart (λ held. ⊤) at_item (λ held x good. tt) (λ held. tt) l None tt
       where
-        at_item : (held : Option A) (x : A) → ⊤ → ApartHere held (made_of held x).0 (made_of held x).1.0
+        at_item : (held : Option A) (x : A) → ⊤ → Apart StaysApart held (made_of held x).0 (made_of held x).1.0
         at_item None x good = λ z after. absurd after
         at_item (Some y) x good = coalesced_by_apart y x (h y x) refl
-
-        at_stop : (held : Option A) (y z : A) → held ≡ Some y → After z held → StaysApart z y
-        at_stop held y z is after = (rw is at after)
 
 pub lists_coalesced : {S A F E : Type 0} {it : S} (m : Contract S A E) (g : Mut F (A × (A × Unit {0})) (OneOrBoth A E)) (s : Coalesce S F A E) (f : F) (h : A → A → OneOrBoth A E) (l : List (Result A E)) → coalesce_parts s ≡ (it, ((None, f), None)) → ActsWith (call_with g) f h → Lists m.steps it l
     → Lists (parts_as coalesce_parts (coalesce_contract g m)).steps s (coalesced h l)
@@ -122,4 +89,4 @@ lists_coalesced {E = E} {it = it} m g s f h l parts acts i = lists_seen coalesce
 -- ---- its hint
 
 pub hints_coalesce : {S A F E : Type 0} (m : Contract S A E) (g : Mut F (A × (A × Unit {0})) (OneOrBoth A E)) → HintsWhereHeld (parts_as coalesce_parts (coalesce_contract g m)) coalesce_due m coalesce_source
-hints_coalesce {E = E} m g = hints_where_one_held E (λ held. held) (λ held. None) held_one (λ held. refl) (coalesce_call g) coalesce_plan (coalesce_plan_weighs E) (ends_nothing E) (holds_where_none E) coalesce_parts m (plan_can (coalesce_call g) coalesce_plan dedup_stops (coalesce_takes g)) 1
+hints_coalesce {E = E} m g = hints_where_one_held E (λ held. held) (λ held. None) held_one (λ held. refl) (coalesce_call g) coalesce_plan (coalesce_plan_buffers E) coalesce_parts m (plan_can (coalesce_call g) coalesce_plan dedup_stops (coalesce_takes g)) 1

@@ -1,25 +1,19 @@
 -- What `Dedup` lists, and its hint.
 use Rattle.std.specs.Prelude.{◌≡◌, ⊤, Bool, true, false, Option, Some, None, Result, Ok, Err, List, [], ◌∷◌, ◌++◌}
-use Rattle.std.proofs.Common.{refl, arith}
+use Rattle.std.proofs.Common.{refl}
 use Rattle.fallible_iterator.specs.Contract.{Contract, parts_as}
 use Rattle.fallible_iterator.specs.Lists.{Lists}
 use Rattle.fallible_iterator.proofs.Lemmas.Lists.Passing.{lists_seen}
 use Rattle.fallible_itertools_adapters.specs.Adjacent.{AdjacentItems}
 use Rattle.fallible_itertools_adapters.specs.BeforeStop.{HintsWhereHeld, held_one}
 use Rattle.fallible_itertools_adapters.specs.Dedup.{dedup_contract, dedup_due, dedup_parts, dedup_plan, dedup_source, dedup_stops, deduped, unless_same}
-use Rattle.fallible_itertools_adapters.specs.Laws.Dedup.{dedup_plan_weighs}
-use Rattle.fallible_itertools_adapters.specs.Laws.Plan.{Always}
+use Rattle.fallible_itertools_adapters.specs.Laws.Dedup.{dedup_plan_buffers}
 use Rattle.fallible_itertools_adapters.specs.Plan.{Making, calls_nothing}
 use Rattle.fallible_itertools_adapters.specs.Staged.{as_function, followed}
-use Rattle.fallible_itertools_adapters.specs.Staging.{Made, stop_comes}
-use Rattle.fallible_itertools_adapters.proofs.Lemmas.BeforeStop.{Apart, HeldWhereNone, NoEnd, adjacent_items_apart, end_before_stop, hints_where_one_held, parted_by_failure}
+use Rattle.fallible_itertools_adapters.specs.Staging.{stop_comes}
+use Rattle.fallible_itertools_adapters.proofs.Lemmas.BeforeStop.{Apart, adjacent_items_apart, end_before_stop, hints_where_one_held, parted_by_failure}
 use Rattle.fallible_itertools_adapters.proofs.Lemmas.Staged.{gives_plan}
 use Rattle.fallible_itertools_adapters.specs.declared.dedup.Dedup.{Dedup}
-
--- what is held differs from the item before it
-abbrev After : {A : Type 0} → (A → A → Bool) → A → Option A → Type 0
-After eq z None = ⊥
-After eq z (Some y) = eq z y ≡ false
 
 module _ {A : Type 0} (E : Type 0) (eq : A → A → Bool) where
   -- ---- its equations
@@ -48,50 +42,26 @@ module _ {A : Type 0} (E : Type 0) (eq : A → A → Bool) where
   unfolding deduped
   deduped_before_failure y e l = refl
 
-  -- ---- what an item makes
-
-  unless_same_ends_nothing : (y x : A) (b : Bool) → NoEnd {E = E} (unless_same y x b).0
-  unless_same_ends_nothing y x true = tt
-  unless_same_ends_nothing y x false = tt
-
-  ends_nothing : (held : Option A) (x : A) → Always (λ t. NoEnd {E = E} t.0) (dedup_plan eq held x)
-  ends_nothing None x = tt
-  ends_nothing (Some y) x = unless_same_ends_nothing y x (eq y x)
-
-  unless_same_holds : (y x : A) (b : Bool) → HeldWhereNone {E = E} (held_one (unless_same {E = E} y x b).1) (unless_same y x b).0
-  unless_same_holds y x true = omega arith
-  unless_same_holds y x false = tt
-
-  holds_where_none : (held : Option A) (x : A) → Always (λ t. HeldWhereNone {E = E} (held_one t.1) t.0) (dedup_plan eq held x)
-  holds_where_none None x = omega arith
-  holds_where_none (Some y) x = unless_same_holds y x (eq y x)
-
   -- ---- what it lists
 
   pub deduped_in_parts : (a : List (Result A E)) (e : E) (b : List (Result A E)) → deduped eq (a ++ Err e ∷ b) ≡ deduped eq a ++ Err e ∷ deduped eq b
   unfolding deduped
-  deduped_in_parts a e b = parted_by_failure (λ u. u) (dedup_plan eq) (λ held. held) (λ held. None) None (λ held. refl) ends_nothing None a e b
+  deduped_in_parts a e b = parted_by_failure (λ u. u) (dedup_plan eq) (λ held. held) (λ held. None) None (λ held. refl) held_one (dedup_plan_buffers E eq) None a e b
 
   abbrev made_of : Option A → A → Making (Option A × Unit {0}) A (Option E) E
   made_of held x = followed (as_function (λ u. u)) (dedup_plan eq held x) tt
 
-  abbrev ApartHere : Option A → Made A (Option E) E → Option A → Type 0
-  ApartHere = Apart {E = E} (λ u. u) (dedup_plan eq) (λ held. held) (λ held. None) (λ x y. eq x y ≡ false) (λ held. ⊤) (After eq)
-
-  unless_same_apart : (y x : A) (b : Bool) → eq y x ≡ b → ApartHere (Some y) (unless_same y x b).0 (unless_same {E = E} y x b).1
+  unless_same_apart : (y x : A) (b : Bool) → eq y x ≡ b → Apart (λ x y. eq x y ≡ false) (Some y) (unless_same {E = E} y x b).0 (unless_same {E = E} y x b).1
   unless_same_apart y x true is = λ z after. after
   unless_same_apart y x false is = (is, λ z after. after)
 
   pub deduped_differ : (l : List (Result A E)) → AdjacentItems (λ x y. eq x y ≡ false) (deduped eq l)
   unfolding deduped
-  deduped_differ l = adjacent_items_apart (λ u. u) (dedup_plan eq) (λ held. held) (λ held. None) (λ x y. eq x y ≡ false) (λ held. ⊤) (After eq) at_item (λ held x good. tt) at_stop (λ held. tt) l None tt
+  deduped_differ l = adjacent_items_apart (λ u. u) (dedup_plan eq) (λ held. held) (λ held. None) (λ x y. eq x y ≡ false) (λ held. ⊤) at_item (λ held x good. tt) (λ held. tt) l None tt
     where
-      at_item : (held : Option A) (x : A) → ⊤ → ApartHere held (made_of held x).0 (made_of held x).1.0
+      at_item : (held : Option A) (x : A) → ⊤ → Apart (λ x y. eq x y ≡ false) held (made_of held x).0 (made_of held x).1.0
       at_item None x good = λ z after. absurd after
       at_item (Some y) x good = unless_same_apart y x (eq y x) refl
-
-      at_stop : (held : Option A) (y z : A) → held ≡ Some y → After eq z held → eq z y ≡ false
-      at_stop held y z is after = (rw is at after)
 
 pub lists_deduped : {S A E : Type 0} {it : S} (m : Contract S A E) (eq : A → A → Bool) (s : Dedup S A E) (l : List (Result A E)) → dedup_parts s ≡ (it, ((None, tt), None)) → Lists m.steps it l → Lists (parts_as dedup_parts (dedup_contract eq m)).steps s (deduped eq l)
 unfolding deduped
@@ -100,4 +70,4 @@ lists_deduped {E = E} {it = it} m eq s l parts i = lists_seen dedup_parts (dedup
 -- ---- its hint
 
 pub hints_dedup : {S A E : Type 0} (m : Contract S A E) (eq : A → A → Bool) → HintsWhereHeld (parts_as dedup_parts (dedup_contract eq m)) dedup_due m dedup_source
-hints_dedup {E = E} m eq = hints_where_one_held E (λ held. held) (λ held. None) held_one (λ held. refl) calls_nothing (dedup_plan eq) (dedup_plan_weighs E eq) (ends_nothing E eq) (holds_where_none E eq) dedup_parts m (λ P p. ⊤) 1
+hints_dedup {E = E} m eq = hints_where_one_held E (λ held. held) (λ held. None) held_one (λ held. refl) calls_nothing (dedup_plan eq) (dedup_plan_buffers E eq) dedup_parts m (λ P p. ⊤) 1

@@ -2,7 +2,7 @@
 use Rattle.std.specs.Prelude.{◌≡◌, ⊤, Bool, true, false, Option, Some, None, Result, Ok, Err, List, [], ◌∷◌, ◌++◌}
 use Rattle.std.specs.Fn.{Mut}
 use Rattle.std.specs.Borrow.{Bor}
-use Rattle.std.proofs.Common.{refl, subst, arith}
+use Rattle.std.proofs.Common.{refl, subst}
 use Rattle.fallible_iterator.specs.Contract.{Contract, parts_as}
 use Rattle.fallible_iterator.specs.Lists.{ActsWith, Lists}
 use Rattle.fallible_iterator.specs.Picking.{call_at_two}
@@ -11,35 +11,13 @@ use Rattle.fallible_itertools_adapters.specs.Adjacent.{AdjacentItems}
 use Rattle.fallible_itertools_adapters.specs.BeforeStop.{HintsWhereHeld, held_one}
 use Rattle.fallible_itertools_adapters.specs.Dedup.{dedup_stops}
 use Rattle.fallible_itertools_adapters.specs.DedupBy.{dedup_by_contract, dedup_by_due, dedup_by_parts, dedup_by_plan, dedup_by_source, deduped_by, same_by, same_call, same_takes}
-use Rattle.fallible_itertools_adapters.specs.Laws.DedupBy.{dedup_by_plan_weighs}
-use Rattle.fallible_itertools_adapters.specs.Laws.Plan.{Always}
+use Rattle.fallible_itertools_adapters.specs.Laws.DedupBy.{dedup_by_plan_buffers}
 use Rattle.fallible_itertools_adapters.specs.Plan.{Making, plan_can}
 use Rattle.fallible_itertools_adapters.specs.Staged.{as_function, followed}
-use Rattle.fallible_itertools_adapters.specs.Staging.{Made, stop_comes}
-use Rattle.fallible_itertools_adapters.proofs.Lemmas.BeforeStop.{Apart, HeldWhereNone, NoEnd, adjacent_items_apart, end_before_stop, hints_where_one_held, parted_by_failure}
+use Rattle.fallible_itertools_adapters.specs.Staging.{stop_comes}
+use Rattle.fallible_itertools_adapters.proofs.Lemmas.BeforeStop.{Apart, adjacent_items_apart, end_before_stop, hints_where_one_held, parted_by_failure}
 use Rattle.fallible_itertools_adapters.proofs.Lemmas.Staged.{gives_plan}
 use Rattle.fallible_itertools_adapters.specs.declared.dedup_by.DedupBy.{DedupBy}
-
--- ---- what an item makes
-
-module _ {A : Type 0} (E : Type 0) where
-  same_by_ends_nothing : (y x : A) (v : Result Bool E) → NoEnd (same_by y x v).0
-  same_by_ends_nothing y x (Ok true) = tt
-  same_by_ends_nothing y x (Ok false) = tt
-  same_by_ends_nothing y x (Err e) = tt
-
-  ends_nothing : (held : Option A) (x : A) → Always (λ t. NoEnd {E = E} t.0) (dedup_by_plan held x)
-  ends_nothing None x = tt
-  ends_nothing (Some y) x = λ v. same_by_ends_nothing y x v
-
-  same_by_holds : (y x : A) (v : Result Bool E) → HeldWhereNone (held_one (same_by y x v).1) (same_by y x v).0
-  same_by_holds y x (Ok true) = omega arith
-  same_by_holds y x (Ok false) = tt
-  same_by_holds y x (Err e) = tt
-
-  holds_where_none : (held : Option A) (x : A) → Always (λ t. HeldWhereNone {E = E} (held_one t.1) t.0) (dedup_by_plan held x)
-  holds_where_none None x = omega arith
-  holds_where_none (Some y) x = λ v. same_by_holds y x v
 
 module _ {A E : Type 0} (h : A → A → Result Bool E) where
   -- ---- its equations
@@ -82,34 +60,23 @@ module _ {A E : Type 0} (h : A → A → Result Bool E) where
 
   pub deduped_by_in_parts : (a : List (Result A E)) (e : E) (b : List (Result A E)) → deduped_by h (a ++ Err e ∷ b) ≡ deduped_by h a ++ Err e ∷ deduped_by h b
   unfolding deduped_by
-  deduped_by_in_parts a e b = parted_by_failure on_both dedup_by_plan (λ held. held) (λ held. None) None (λ held. refl) (ends_nothing E) None a e b
+  deduped_by_in_parts a e b = parted_by_failure on_both dedup_by_plan (λ held. held) (λ held. None) None (λ held. refl) held_one (dedup_by_plan_buffers E) None a e b
 
   abbrev FoundToDiffer : A → A → Type 0
   FoundToDiffer x y = h x y ≡ Ok false
 
-  -- what is held differs from the item before it
-  abbrev After : A → Option A → Type 0
-  After z None = ⊥
-  After z (Some y) = FoundToDiffer z y
-
-  abbrev ApartHere : Option A → Made A (Option E) E → Option A → Type 0
-  ApartHere = Apart {E = E} on_both dedup_by_plan (λ held. held) (λ held. None) FoundToDiffer (λ held. ⊤) After
-
-  same_by_apart : (y x : A) (v : Result Bool E) → h y x ≡ v → ApartHere (Some y) (same_by y x v).0 (same_by y x v).1
+  same_by_apart : (y x : A) (v : Result Bool E) → h y x ≡ v → Apart FoundToDiffer (Some y) (same_by y x v).0 (same_by y x v).1
   same_by_apart y x (Ok true) is = λ z after. after
   same_by_apart y x (Ok false) is = (is, λ z after. after)
   same_by_apart y x (Err e) is = λ z after. after
 
   pub adjacent_deduped_by_differ : (l : List (Result A E)) → AdjacentItems (λ x y. h x y ≡ Ok false) (deduped_by h l)
   unfolding deduped_by
-  adjacent_deduped_by_differ l = adjacent_items_apart on_both dedup_by_plan (λ held. held) (λ held. None) FoundToDiffer (λ held. ⊤) After at_item (λ held x good. tt) at_stop (λ held. tt) l None tt
+  adjacent_deduped_by_differ l = adjacent_items_apart on_both dedup_by_plan (λ held. held) (λ held. None) FoundToDiffer (λ held. ⊤) at_item (λ held x good. tt) (λ held. tt) l None tt
     where
-      at_item : (held : Option A) (x : A) → ⊤ → ApartHere held (made_of held x).0 (made_of held x).1.0
+      at_item : (held : Option A) (x : A) → ⊤ → Apart FoundToDiffer held (made_of held x).0 (made_of held x).1.0
       at_item None x good = λ z after. absurd after
       at_item (Some y) x good = same_by_apart y x (h y x) refl
-
-      at_stop : (held : Option A) (y z : A) → held ≡ Some y → After z held → FoundToDiffer z y
-      at_stop held y z is after = (rw is at after)
 
 pub lists_deduped_by : {S A F E : Type 0} {it : S} (m : Contract S A E) (g : Mut F (Bor A × (Bor A × Unit {0})) (Result Bool E)) (s : DedupBy S F A E) (f : F) (h : A → A → Result Bool E) (l : List (Result A E)) → dedup_by_parts s ≡ (it, ((None, f), None)) → ActsWith (call_at_two g) f h → Lists m.steps it l
     → Lists (parts_as dedup_by_parts (dedup_by_contract g m)).steps s (deduped_by h l)
@@ -119,4 +86,4 @@ lists_deduped_by {E = E} {it = it} m g s f h l parts acts i = lists_seen dedup_b
 -- ---- its hint
 
 pub hints_dedup_by : {S A F E : Type 0} (m : Contract S A E) (g : Mut F (Bor A × (Bor A × Unit {0})) (Result Bool E)) → HintsWhereHeld (parts_as dedup_by_parts (dedup_by_contract g m)) dedup_by_due m dedup_by_source
-hints_dedup_by {E = E} m g = hints_where_one_held E (λ held. held) (λ held. None) held_one (λ held. refl) (same_call g) dedup_by_plan (dedup_by_plan_weighs E) (ends_nothing E) (holds_where_none E) dedup_by_parts m (plan_can (same_call g) dedup_by_plan dedup_stops (same_takes g)) 1
+hints_dedup_by {E = E} m g = hints_where_one_held E (λ held. held) (λ held. None) held_one (λ held. refl) (same_call g) dedup_by_plan (dedup_by_plan_buffers E) dedup_by_parts m (plan_can (same_call g) dedup_by_plan dedup_stops (same_takes g)) 1

@@ -2,7 +2,7 @@
 use Rattle.std.specs.Prelude.{◌≡◌, ⊤, Bool, true, false, Option, Some, None, Result, Ok, Err, List, [], ◌∷◌, ◌++◌}
 use Rattle.std.specs.Fn.{Mut}
 use Rattle.std.specs.Borrow.{Bor}
-use Rattle.std.proofs.Common.{refl, subst, arith}
+use Rattle.std.proofs.Common.{refl, subst}
 use Rattle.fallible_iterator.specs.Closures.{IsCallable, call_by_reference, takes_by_reference}
 use Rattle.fallible_iterator.specs.Contract.{Contract, parts_as}
 use Rattle.fallible_iterator.specs.Lists.{Acts, Lists}
@@ -10,37 +10,14 @@ use Rattle.fallible_iterator.proofs.Lemmas.Lists.Passing.{lists_seen}
 use Rattle.fallible_itertools_adapters.specs.Adjacent.{AdjacentItems, HaveKeys}
 use Rattle.fallible_itertools_adapters.specs.BeforeStop.{HintsWhereHeld, held_one}
 use Rattle.fallible_itertools_adapters.specs.DedupByKey.{dedup_by_key_contract, dedup_by_key_due, dedup_by_key_parts, dedup_by_key_source, dedup_key_plan, dedup_key_stops, deduped_by_key, keyed_by, keyed_item, unless_same_key}
-use Rattle.fallible_itertools_adapters.specs.Laws.DedupByKey.{dedup_key_plan_weighs, held_one_of_keyed}
+use Rattle.fallible_itertools_adapters.specs.Laws.DedupByKey.{dedup_key_plan_buffers, held_one_of_keyed}
 use Rattle.fallible_itertools_adapters.specs.Plan.{plan_can}
 use Rattle.fallible_itertools_adapters.specs.Staged.{as_function}
 use Rattle.fallible_itertools_adapters.specs.Staging.{Made, MayMeet, stop_comes}
-use Rattle.fallible_itertools_adapters.proofs.Lemmas.BeforeStop.{Apart, HeldWhereNone, NoEnd, adjacent_items_apart, end_before_stop, hints_where_one_held, parted_by_failure}
+use Rattle.fallible_itertools_adapters.proofs.Lemmas.BeforeStop.{Apart, adjacent_items_apart, end_before_stop, hints_where_one_held, parted_by_failure}
 use Rattle.fallible_itertools_adapters.proofs.Lemmas.Plan.{plan_can_where_callable}
 use Rattle.fallible_itertools_adapters.proofs.Lemmas.Staged.{gives_plan}
 use Rattle.fallible_itertools_adapters.specs.declared.dedup_by_key.DedupByKey.{DedupByKey}
-
--- ---- what an item makes
-
-module _ {A K : Type 0} (E : Type 0) (eq : K → K → Bool) where
-  unless_same_key_ends_nothing : (held next : K × A) (b : Bool) → NoEnd {E = E} (unless_same_key eq held next b).0
-  unless_same_key_ends_nothing held next true = tt
-  unless_same_key_ends_nothing held next false = tt
-
-  ends_nothing : (held : Option (K × A)) (x : A) (v : Result K E) → NoEnd (keyed_by eq held x v).0
-  ends_nothing None x (Err e) = tt
-  ends_nothing (Some p) x (Err e) = tt
-  ends_nothing None x (Ok k) = tt
-  ends_nothing (Some p) x (Ok k) = unless_same_key_ends_nothing p (k, x) (eq p.0 k)
-
-  unless_same_key_holds : (held next : K × A) (b : Bool) → HeldWhereNone {E = E} (held_one (unless_same_key eq {E = E} held next b).1) (unless_same_key eq held next b).0
-  unless_same_key_holds held next true = omega arith
-  unless_same_key_holds held next false = tt
-
-  holds_where_none : (held : Option (K × A)) (x : A) (v : Result K E) → HeldWhereNone (held_one (keyed_by eq held x v).1) (keyed_by eq held x v).0
-  holds_where_none None x (Err e) = tt
-  holds_where_none (Some p) x (Err e) = tt
-  holds_where_none None x (Ok k) = omega arith
-  holds_where_none (Some p) x (Ok k) = unless_same_key_holds p (k, x) (eq p.0 k)
 
 module _ {A K E : Type 0} (eq : K → K → Bool) (h : A → Result K E) where
   -- ---- its equations
@@ -77,23 +54,19 @@ module _ {A K E : Type 0} (eq : K → K → Bool) (h : A → Result K E) where
 
   pub deduped_by_key_in_parts : (a : List (Result A E)) (e : E) (b : List (Result A E)) → deduped_by_key eq h (a ++ Err e ∷ b) ≡ deduped_by_key eq h a ++ Err e ∷ deduped_by_key eq h b
   unfolding deduped_by_key
-  deduped_by_key_in_parts a e b = parted_by_failure h (dedup_key_plan eq) keyed_item (λ held. None) None (λ held. refl) (ends_nothing E eq) None a e b
+  deduped_by_key_in_parts a e b = parted_by_failure h (dedup_key_plan eq) keyed_item (λ held. None) None (λ held. refl) held_one (dedup_key_plan_buffers E eq) None a e b
 
   -- two items have keys that differ
   abbrev Differ : A → A → Type 0
   Differ x y = HaveKeys h (λ k j. eq k j ≡ false) x y
 
-  -- what is held has its key, and it differs from the item before it
+  -- what is held has its key
   abbrev IsKeyed : Option (K × A) → Type 0
   IsKeyed None = ⊤
   IsKeyed (Some p) = h p.1 ≡ Ok p.0
 
-  abbrev After : A → Option (K × A) → Type 0
-  After z None = ⊥
-  After z (Some p) = Differ z p.1
-
   abbrev ApartHere : Option (K × A) → Made A (Option E) E → Option (K × A) → Type 0
-  ApartHere = Apart {E = E} h (dedup_key_plan eq) keyed_item (λ held. None) Differ IsKeyed After
+  ApartHere held made k = Apart Differ (keyed_item held) made (keyed_item k)
 
   unless_same_key_apart : (p : K × A) (x : A) (k : K) (b : Bool) → eq p.0 k ≡ b → h p.1 ≡ Ok p.0 → h x ≡ Ok k → ApartHere (Some p) (unless_same_key eq p (k, x) b).0 (unless_same_key eq {E = E} p (k, x) b).1 × IsKeyed (unless_same_key eq {E = E} p (k, x) b).1
   unless_same_key_apart p x k true is keyed also = ((λ z after. after), keyed)
@@ -105,13 +78,9 @@ module _ {A K E : Type 0} (eq : K → K → Bool) (h : A → Result K E) where
   keyed_apart None x (Ok k) is keyed = ((λ z after. absurd after), is)
   keyed_apart (Some p) x (Ok k) is keyed = unless_same_key_apart p x k (eq p.0 k) refl keyed is
 
-  apart_at_stop : (held : Option (K × A)) (y z : A) → keyed_item held ≡ Some y → After z held → Differ z y
-  apart_at_stop None y z is after = absurd after
-  apart_at_stop (Some p) y z is after = let same : p.1 ≡ y = cc in (rw same at after)
-
   pub adjacent_deduped_by_key_differ : (l : List (Result A E)) → AdjacentItems Differ (deduped_by_key eq h l)
   unfolding deduped_by_key
-  adjacent_deduped_by_key_differ l = adjacent_items_apart h (dedup_key_plan eq) keyed_item (λ held. None) Differ IsKeyed After (λ held x keyed. (keyed_apart held x (h x) refl keyed).0) (λ held x keyed. (keyed_apart held x (h x) refl keyed).1) apart_at_stop (λ held. tt) l None tt
+  adjacent_deduped_by_key_differ l = adjacent_items_apart h (dedup_key_plan eq) keyed_item (λ held. None) Differ IsKeyed (λ held x keyed. (keyed_apart held x (h x) refl keyed).0) (λ held x keyed. (keyed_apart held x (h x) refl keyed).1) (λ held. tt) l None tt
 
 pub lists_deduped_by_key : {S A K F E : Type 0} {it : S} (m : Contract S A E) (eq : K → K → Bool) (g : Mut F (Bor A × Unit {0}) (Result K E)) (s : DedupByKey S K F A E) (f : F) (h : A → Result K E) (l : List (Result A E)) → dedup_by_key_parts s ≡ (it, ((None, f), None)) → Acts (call_by_reference g) f h → Lists m.steps it l
     → Lists (parts_as dedup_by_key_parts (dedup_by_key_contract eq g m)).steps s (deduped_by_key eq h l)
@@ -121,7 +90,7 @@ lists_deduped_by_key {E = E} {it = it} m eq g s f h l parts acts i = lists_seen 
 -- ---- its hint
 
 pub hints_dedup_by_key : {S A K F E : Type 0} (m : Contract S A E) (eq : K → K → Bool) (g : Mut F (Bor A × Unit {0}) (Result K E)) → HintsWhereHeld (parts_as dedup_by_key_parts (dedup_by_key_contract eq g m)) dedup_by_key_due m dedup_by_key_source
-hints_dedup_by_key {E = E} m eq g = hints_where_one_held E keyed_item (λ held. None) held_one held_one_of_keyed (call_by_reference g) (dedup_key_plan eq) (dedup_key_plan_weighs E eq) (ends_nothing E eq) (holds_where_none E eq) dedup_by_key_parts m (plan_can (call_by_reference g) (dedup_key_plan eq) dedup_key_stops (takes_by_reference g)) 1
+hints_dedup_by_key {E = E} m eq g = hints_where_one_held E keyed_item (λ held. None) held_one held_one_of_keyed (call_by_reference g) (dedup_key_plan eq) (dedup_key_plan_buffers E eq) dedup_by_key_parts m (plan_can (call_by_reference g) (dedup_key_plan eq) dedup_key_stops (takes_by_reference g)) 1
 
 -- where the closure may be called on what comes, so may the adapter
 pub plan_can_dedup_key : {S A K F E : Type 0} (m : Contract S A E) (eq : K → K → Bool) (g : Mut F (Bor A × Unit {0}) (Result K E)) (s : S) (p : Option (K × A) × F) → IsCallable (call_by_reference g) (takes_by_reference g) (m.may_give s) p.1 → plan_can (call_by_reference g) (dedup_key_plan eq) dedup_key_stops (takes_by_reference g) (MayMeet m s) p

@@ -1,6 +1,6 @@
 -- What `DedupWithCount` and `DedupByWithCount` list, and their hints.
 use Rattle.std.specs.Prelude.{◌≡◌, ℕ, Bool, true, false, ⊤, Option, Some, None, Result, Ok, Err, List, [], ◌∷◌, ◌++◌}
-use Rattle.std.proofs.Common.{refl, ap, subst, arith, ◌∙◌}
+use Rattle.std.proofs.Common.{refl, ap, subst, ◌∙◌}
 use Rattle.std.specs.Fn.{Mut}
 use Rattle.std.specs.Borrow.{Bor}
 use Rattle.fallible_iterator.specs.Contract.{Contract, parts_as}
@@ -12,26 +12,15 @@ use Rattle.fallible_itertools_adapters.specs.BeforeStop.{HintsWhereHeld, before_
 use Rattle.fallible_itertools_adapters.specs.DedupBy.{same_call}
 use Rattle.fallible_itertools_adapters.specs.DedupByWithCount.{dedup_by_with_count_contract, dedup_by_with_count_parts}
 use Rattle.fallible_itertools_adapters.specs.DedupWithCount.{are_equal, dedup_with_count_contract, dedup_with_count_parts}
-use Rattle.fallible_itertools_adapters.specs.Laws.Plan.{Always}
-use Rattle.fallible_itertools_adapters.specs.Laws.RunCounts.{count_weighs}
+use Rattle.fallible_itertools_adapters.specs.Laws.RunCounts.{count_buffers}
 use Rattle.fallible_itertools_adapters.specs.Plan.{bounded, plan_hint, plan_meets}
 use Rattle.fallible_itertools_adapters.specs.RunCounts.{count_plan, count_stops, counted_by, deduped_by_with_count, deduped_with_count, first_once_more, one_more}
 use Rattle.fallible_itertools_adapters.specs.Staged.{as_function, calls_function, made_first, plan_does, staged}
 use Rattle.fallible_itertools_adapters.specs.Staging.{Made, stage_contract, stop_comes}
-use Rattle.fallible_itertools_adapters.proofs.Lemmas.BeforeStop.{HeldWhereNone, NoEnd, end_before_stop, hints_where_one_held, parted_by_failure}
+use Rattle.fallible_itertools_adapters.proofs.Lemmas.BeforeStop.{end_before_stop, hints_where_one_held, parted_by_failure}
 use Rattle.fallible_itertools_adapters.proofs.Lemmas.Staged.{gives_plan}
 use Rattle.fallible_itertools_adapters.specs.declared.dedup_by_with_count.DedupByWithCount.{DedupByWithCount}
 use Rattle.fallible_itertools_adapters.specs.declared.dedup_with_count.DedupWithCount.{DedupWithCount}
-
-module _ (A E : Type 0) where
-  counted_no_end : (p : ℕ × A) (x : A) (v : Result Bool E) → NoEnd (counted_by p x v).0
-  counted_no_end p x (Ok true) = tt
-  counted_no_end p x (Ok false) = tt
-  counted_no_end p x (Err e) = tt
-
-  count_no_end : (held : Option (ℕ × A)) (x : A) → Always (λ t. NoEnd {E = E} t.0) (count_plan held x)
-  count_no_end None x = tt
-  count_no_end (Some p) x = λ v. counted_no_end p x v
 
 -- what comes where the closure failed, if p was held
 pub failed_where_held : {A E : Type 0} (p : ℕ × A) (e : E) (made : Made (ℕ × A) (Option E) E) (held : Option (ℕ × A)) → made ≡ before_stop held (Some e) → held ≡ Some p → made ≡ before_stop (Some p) (Some e)
@@ -97,7 +86,7 @@ module _ {A E : Type 0} (h : A → A → Result Bool E) where
   -- What stands before a failure is counted by itself, and so is what comes after it.
   pub counted_in_parts : (a : List (Result A E)) (e : E) (b : List (Result A E)) → deduped_by_with_count h (a ++ Err e ∷ b) ≡ deduped_by_with_count h a ++ Err e ∷ deduped_by_with_count h b
   unfolding deduped_by_with_count
-  counted_in_parts a e b = parted_by_failure compared_by count_plan (λ held. held) (λ held. None) None (λ held. refl) (count_no_end A E) None a e b
+  counted_in_parts a e b = parted_by_failure compared_by count_plan (λ held. held) (λ held. None) None (λ held. refl) held_one (count_buffers E) None a e b
 
 pub deduped_with_count_is_by : {A E : Type 0} (eq : A → A → Bool) (l : List (Result A E)) → deduped_with_count eq l ≡ deduped_by_with_count (λ y x. Ok (eq y x)) l
 unfolding deduped_with_count
@@ -121,14 +110,5 @@ lists_deduped_by_with_count {E = E} {it = it} m g s f h l parts acts i = lists_s
 -- ---- the hint
 
 module _ {F A E : Type 0} (call : F → A × A → Result Bool E → F → Type 0) where
-  counted_held_where_none : (p : ℕ × A) (x : A) (v : Result Bool E) → HeldWhereNone (held_one (counted_by p x v).1) (counted_by p x v).0
-  counted_held_where_none p x (Ok true) = omega arith
-  counted_held_where_none p x (Ok false) = tt
-  counted_held_where_none p x (Err e) = tt
-
-  held_where_none : (held : Option (ℕ × A)) (x : A) → Always (λ t. HeldWhereNone {E = E} (held_one t.1) t.0) (count_plan held x)
-  held_where_none None x = omega arith
-  held_where_none (Some p) x = λ v. counted_held_where_none p x v
-
   pub hints_counted : {V S : Type 0} (view : V → S × ((Option (ℕ × A) × F) × Option (Option E))) (m : Contract S A E) (can : (Answered A E → Type 0) → Option (ℕ × A) × F → Type 0) → HintsWhereHeld (parts_as view (stage_contract (bounded m) stop_comes (plan_meets call count_plan count_stops) can 1 (λ p. held_one p.0) (plan_hint (bounded m) (held_hints held_one)))) (λ s. (view s).1.1) m (λ s. (view s).0)
-  hints_counted view m can = hints_where_one_held E (λ held. held) (λ held. None) held_one (λ held. refl) call count_plan (count_weighs E) (count_no_end A E) held_where_none view m can 1
+  hints_counted view m can = hints_where_one_held E (λ held. held) (λ held. None) held_one (λ held. refl) call count_plan (count_buffers E) view m can 1

@@ -9,11 +9,12 @@ use Rattle.fallible_iterator.proofs.Lemmas.Hints.Joining.{if_some_fitting_sum_at
 use Rattle.fallible_iterator.proofs.Lemmas.Lists.Passing.{lists_seen}
 use Rattle.fallible_itertools_adapters.specs.BeforeStop.{HintsWhereHeld, held_one}
 use Rattle.fallible_itertools_adapters.specs.Laws.Plan.{Always}
+use Rattle.fallible_itertools_adapters.specs.Laws.WithPosition.{position_buffers}
 use Rattle.fallible_itertools_adapters.specs.Plan.{calls_nothing, plan_meets}
 use Rattle.fallible_itertools_adapters.specs.Staged.{as_function, plan_does, staged}
 use Rattle.fallible_itertools_adapters.specs.Staging.{EndsInStop, items_of, made_total, passes_over, stage_step, stop_comes, yields}
 use Rattle.fallible_itertools_adapters.specs.WithPosition.{position_plan, position_stops, positioned, positioned_last, with_position_contract, with_position_due, with_position_parts, with_position_source}
-use Rattle.fallible_itertools_adapters.proofs.Lemmas.BeforeStop.{NoEnd, end_before_stop, hints_where_held, parted_by_failure}
+use Rattle.fallible_itertools_adapters.proofs.Lemmas.BeforeStop.{end_before_stop, hints_where_held, parted_by_failure}
 use Rattle.fallible_itertools_adapters.proofs.Lemmas.PlanHints.{PlanMakes}
 use Rattle.fallible_itertools_adapters.proofs.Lemmas.Staged.{gives_plan}
 use Rattle.fallible_itertools_adapters.proofs.Lemmas.StagingHints.{MadeFew}
@@ -23,11 +24,6 @@ use Rattle.fallible_itertools_adapters.specs.declared.with_position.WithPosition
 
 -- ---- what it lists
 
-module _ (A E : Type 0) where
-  position_no_end : (held : Option (Bool × A)) (x : A) → Always (λ t. NoEnd {E = E} t.0) (position_plan held x)
-  position_no_end None x = tt
-  position_no_end (Some p) x = tt
-
 module _ {A E : Type 0} where
   -- the list where this is held before it
   abbrev positioned_from : Option (Bool × A) → List (Result A E) → List (Result (Position × A) E)
@@ -36,7 +32,7 @@ module _ {A E : Type 0} where
   -- What stands before a failure is positioned by itself, and so is what comes after it.
   pub positioned_in_parts : (a : List (Result A E)) (e : E) (b : List (Result A E)) → positioned (a ++ Err e ∷ b) ≡ positioned a ++ Err e ∷ positioned b
   unfolding positioned
-  positioned_in_parts a e b = parted_by_failure (λ u. u) position_plan positioned_last (λ held. None) None (λ held. refl) (position_no_end A E) None a e b
+  positioned_in_parts a e b = parted_by_failure (λ u. u) position_plan positioned_last (λ held. None) None (λ held. refl) held_one (position_buffers E) None a e b
 
   positioned_of_later_is_middles_to_last : (z : A) (a : List A) (y : A) → positioned_from (Some (true, z)) (map (λ x. Ok x) a ++ Ok y ∷ []) ≡ map (λ x. Ok (Middle, x)) (z ∷ a) ++ Ok (Last, y) ∷ []
   positioned_of_later_is_middles_to_last z [] y = refl

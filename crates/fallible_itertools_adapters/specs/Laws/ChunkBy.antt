@@ -1,39 +1,35 @@
 -- The contract of `ChunkBy` is lawful where the source's is.
-use Rattle.std.specs.Prelude.{Bool, true, false, Option, Some, None, Result, Ok, Err}
+use Rattle.std.specs.Prelude.{◌≤◌, Bool, true, false, Option, Some, None, Result, Ok, Err}
 use Rattle.std.specs.Fn.{Mut}
 use Rattle.std.specs.Borrow.{Bor}
 use Rattle.std.proofs.Common.{refl, arith}
 use Rattle.fallible_iterator.specs.Contract.{Contract, Lawful}
-use Rattle.fallible_itertools_adapters.specs.BeforeStop.{before_stop, held_hints, held_one}
+use Rattle.fallible_itertools_adapters.specs.BeforeStop.{held_hints, held_one}
 use Rattle.fallible_itertools_adapters.specs.ChunkBy.{KeyedPut, chunk_by_contract, chunk_by_plan, chunk_by_stops, group_at, group_by, group_kept, puts_by_key, takes_key}
-use Rattle.fallible_itertools_adapters.specs.Laws.Plan.{ItemWeighs, before_stop_weighs, is_stage_plan, lawful_bounded, lawful_closure}
+use Rattle.fallible_itertools_adapters.specs.Laws.Plan.{ItemBuffers, before_stop_weighs, failure_buffers, is_stage_buffering, lawful_bounded, lawful_closure}
 use Rattle.fallible_itertools_adapters.specs.Plan.{plan_meets}
 use Rattle.fallible_itertools_adapters.specs.Staging.{IsStage, stop_comes}
 use Rattle.std.specs.declared.alloc.AllocError.{AllocError}
 
 module _ {K V : Type 0} (E : Type 0) where
-  group_at_weighs : (g : K × V) (k : K) (v : V) (same : Bool) → ItemWeighs {E = E} stop_comes 1 held_one (Some g) (group_at g k v same)
-  group_at_weighs g k v true = (omega arith, omega arith)
-  group_at_weighs g k v false = (omega arith, omega arith)
+  group_at_buffers : (g : K × V) (k : K) (v : V) (same : Bool) → ItemBuffers {E = E} held_one (Some g) (group_at g k v same)
+  group_at_buffers g k v true = ((omega arith, omega arith), tt, omega arith)
+  group_at_buffers g k v false = ((omega arith, omega arith), tt, tt)
 
-  failure_weighs : (held : Option (K × V)) (e : E) → ItemWeighs stop_comes 1 held_one held (before_stop held (Some e), None)
-  failure_weighs None e = (omega arith, omega arith)
-  failure_weighs (Some g) e = (omega arith, omega arith)
+  group_kept_is_held : (held : Option (K × V)) (kept : Option V) → held_one (group_kept held kept) ≤ held_one held
+  group_kept_is_held None kept = omega arith
+  group_kept_is_held (Some g) None = omega arith
+  group_kept_is_held (Some g) (Some v) = omega arith
 
-  refused_weighs : (held : Option (K × V)) (kept : Option V) (e : E) → ItemWeighs stop_comes 1 held_one held (before_stop (group_kept held kept) (Some e), None)
-  refused_weighs None kept e = (omega arith, omega arith)
-  refused_weighs (Some g) None e = (omega arith, omega arith)
-  refused_weighs (Some g) (Some v) e = (omega arith, omega arith)
-
-  pub group_by_weighs : (eq : K → K → Bool) (held : Option (K × V)) (v : KeyedPut K V E) → ItemWeighs stop_comes 1 held_one held (group_by eq held v)
-  group_by_weighs eq None (Ok (k, Ok v)) = (omega arith, omega arith)
-  group_by_weighs eq (Some g) (Ok (k, Ok v)) = group_at_weighs g k v (eq g.0 k)
-  group_by_weighs eq held (Ok (k, Err (kept, e))) = refused_weighs held kept e
-  group_by_weighs eq held (Err e) = failure_weighs held e
+  pub group_by_buffers : (eq : K → K → Bool) (held : Option (K × V)) (v : KeyedPut K V E) → ItemBuffers held_one held (group_by eq held v)
+  group_by_buffers eq None (Ok (k, Ok v)) = ((omega arith, omega arith), tt, omega arith)
+  group_by_buffers eq (Some g) (Ok (k, Ok v)) = group_at_buffers g k v (eq g.0 k)
+  group_by_buffers eq held (Ok (k, Err (kept, e))) = failure_buffers held_one held None (group_kept held kept) e (group_kept_is_held held kept) refl
+  group_by_buffers eq held (Err e) = failure_buffers held_one held None held e (omega arith) refl
 
 module _ {F A K E : Type 0} (from : AllocError → E → Type 0) (eq : K → K → Bool) (g : Mut F (Bor A × Unit {0}) (Result K E)) where
   pub is_stage_chunk_by : IsStage stop_comes (plan_meets (puts_by_key from eq g) (chunk_by_plan eq) chunk_by_stops) 1 (λ p. held_one p.0)
-  is_stage_chunk_by = is_stage_plan stop_comes 1 held_one (puts_by_key from eq g) (chunk_by_plan eq) chunk_by_stops (λ held x v. group_by_weighs E eq held v) (λ held stop. before_stop_weighs held_one held None held stop refl refl)
+  is_stage_chunk_by = is_stage_buffering held_one (puts_by_key from eq g) (chunk_by_plan eq) chunk_by_stops (λ held x v. group_by_buffers E eq held v) (λ held stop. before_stop_weighs held_one held None held stop refl refl)
 
   pub lawful_chunk_by : {S : Type 0} {m : Contract S A E} → Lawful m → Lawful (chunk_by_contract from eq g m)
   lawful_chunk_by l = lawful_closure (lawful_bounded l) stop_comes (puts_by_key from eq g) (chunk_by_plan eq) chunk_by_stops 1 held_one (held_hints held_one) is_stage_chunk_by (takes_key g)

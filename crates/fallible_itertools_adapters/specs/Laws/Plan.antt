@@ -1,19 +1,23 @@
 -- The contracts of adapters by functions are lawful where the source's is: what is made weighs no more than what was held and drawn.
 use Rattle.std.specs.Prelude.{◌≡◌, ℕ, ◌+◌, ◌*◌, ◌≤◌, ⊤, Option, Some, None, Ok, Err}
-use Rattle.std.proofs.Common.{arith, refl}
+use Rattle.std.proofs.Common.{arith}
 use Rattle.fallible_iterator.specs.Traces.{Answered}
 use Rattle.fallible_iterator.specs.Contract.{Contract, Lawful}
 use Rattle.fallible_iterator.specs.Laws.Closures.{is_callable_after}
 use Rattle.fallible_iterator.specs.Passing.{IfItem}
-use Rattle.fallible_itertools_adapters.specs.Staging.{EndsInStop, IsStage, Made, due_total, items_of, made_total, stays_of, stop_comes}
+use Rattle.fallible_itertools_adapters.specs.Staging.{EndsInStop, IsStage, Made, items_of, made_total, stays_of, stop_comes}
 use Rattle.fallible_itertools_adapters.specs.Laws.Staging.{lawful_stage}
 use Rattle.fallible_itertools_adapters.specs.BeforeStop.{before_stop, held_one}
-use Rattle.fallible_itertools_adapters.specs.Plan.{Follows, HintPlan, Makes, Making, Plan, bounded, calls, closure_contract, makes, none_held, passes, plan_can, plan_contract, plan_hint, plan_meets, plan_takes}
+use Rattle.fallible_itertools_adapters.specs.Plan.{Follows, HintPlan, Makes, Making, Plan, bounded, calls, closure_contract, makes, passes, plan_can, plan_contract, plan_hint, plan_meets, plan_takes}
 
 -- P holds of what comes of a plan, whatever the call returns
 abbrev pub Always : {Q R T : Type 0} → (T → Type 0) → Plan Q R T → Type 0
 Always P (makes t) = P t
 Always {R = R} P (calls q by) = (v : R) → P (by v)
+
+pub always_weaken : {Q R T : Type 0} {P W : T → Type 0} → ((t : T) → P t → W t) → (plan : Plan Q R T) → Always P plan → Always W plan
+always_weaken weak (makes t) is = weak t is
+always_weaken weak (calls q by) is = λ v. weak (by v) (is v)
 
 pub always_of_follows : {F Q R H B L E : Type 0} (call : F → Q → R → F → Type 0) (P : Making H B L E → Type 0) (plan : Plan Q R (Making H B L E)) (f : F) (made : Made B L E) (k : H) (g : F) → Follows call plan f made k g → Always P plan → (t : Making H B L E) × Makes t made k × P t
 always_of_follows call P (makes t) f made k g w is = (t, w.0, is)
@@ -54,6 +58,32 @@ before_stop_weighs held h k None None was none = (omega (arith, none), omega (ar
 before_stop_weighs held h k None (Some e) was none = (omega (arith, none), omega (arith, none), tt)
 before_stop_weighs held h k (Some y) None was none = (omega (arith, was, none), omega (arith, was, none), tt)
 before_stop_weighs held h k (Some y) (Some e) was none = (omega (arith, was, none), omega (arith, was, none), tt)
+
+-- ---- where what is held comes first at a stop
+
+-- no end is an answer, and none is due
+abbrev pub NoEnd : {B E : Type 0} → Made B (Option E) E → Type 0
+NoEnd None = ⊤
+NoEnd (Some (Ok None, due)) = ⊥
+NoEnd (Some (a, Some None)) = ⊥
+NoEnd (Some (a, due)) = ⊤
+
+-- what makes nothing is held
+abbrev pub HeldWhereNone : {B E : Type 0} → ℕ → Made B (Option E) E → Type 0
+HeldWhereNone held None = 1 ≤ held
+HeldWhereNone held (Some made) = ⊤
+
+-- An item makes at most one answer beyond what was held and isn't any more, and no end; where it makes nothing, something is held.
+abbrev pub ItemBuffers : {H B E : Type 0} → (H → ℕ) → H → Making H B (Option E) E → Type 0
+ItemBuffers held h t = ItemWeighs stop_comes 1 held h t × NoEnd t.0 × HeldWhereNone (held t.1) t.0
+
+-- what was held, and then a failure
+pub failure_buffers : {B E H : Type 0} (held : H → ℕ) (h k : H) (kept : Option B) (e : E) → held_one kept ≤ held h → held k ≡ 0 → ItemBuffers held h (before_stop kept (Some e), k)
+failure_buffers held h k None e was none = ((omega (arith, none), omega (arith, none)), tt, tt)
+failure_buffers held h k (Some y) e was none = ((omega (arith, was, none), omega (arith, was, none)), tt, tt)
+
+pub is_stage_buffering : {H F Q R X B E : Type 0} (held : H → ℕ) (call : F → Q → R → F → Type 0) (plan : H → X → Plan Q R (Making H B (Option E) E)) (stops : H → Option E → Making H B (Option E) E) → ((h : H) (x : X) → Always (λ t. ItemBuffers held h t) (plan h x)) → ((h : H) (stop : Option E) → StopWeighs stop_comes 1 held h stop (stops h stop)) → IsStage stop_comes (plan_meets call plan stops) 1 (λ (p : H × F). held p.0)
+is_stage_buffering held call plan stops at_item at_stop = is_stage_plan stop_comes 1 held call plan stops (λ h x. always_weaken (λ t is. is.0) (plan h x) (at_item h x)) at_stop
 
 -- ---- lawful
 

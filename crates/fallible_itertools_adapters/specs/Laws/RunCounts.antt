@@ -8,27 +8,27 @@ use Rattle.fallible_itertools_adapters.specs.BeforeStop.{held_hints, held_one}
 use Rattle.fallible_itertools_adapters.specs.DedupBy.{same_call, same_takes}
 use Rattle.fallible_itertools_adapters.specs.DedupByWithCount.{dedup_by_with_count_contract}
 use Rattle.fallible_itertools_adapters.specs.DedupWithCount.{are_equal, dedup_with_count_contract}
-use Rattle.fallible_itertools_adapters.specs.Laws.Plan.{Always, ItemWeighs, StopWeighs, before_stop_weighs, is_stage_plan, lawful_bounded, lawful_closure, lawful_plan}
+use Rattle.fallible_itertools_adapters.specs.Laws.Plan.{Always, ItemBuffers, StopWeighs, before_stop_weighs, is_stage_buffering, lawful_bounded, lawful_closure, lawful_plan}
 use Rattle.fallible_itertools_adapters.specs.Plan.{plan_meets}
 use Rattle.fallible_itertools_adapters.specs.RunCounts.{count_plan, count_stops, counted_by}
 use Rattle.fallible_itertools_adapters.specs.Staged.{calls_function}
 use Rattle.fallible_itertools_adapters.specs.Staging.{IsStage, stop_comes}
 
 module _ {A : Type 0} (E : Type 0) where
-  counted_weighs : (p : ℕ × A) (x : A) (v : Result Bool E) → ItemWeighs stop_comes 1 held_one (Some p) (counted_by p x v)
-  counted_weighs p x (Ok true) = (omega arith, omega arith)
-  counted_weighs p x (Ok false) = (omega arith, omega arith)
-  counted_weighs p x (Err e) = (omega arith, omega arith)
+  counted_buffers : (p : ℕ × A) (x : A) (v : Result Bool E) → ItemBuffers held_one (Some p) (counted_by p x v)
+  counted_buffers p x (Ok true) = ((omega arith, omega arith), tt, omega arith)
+  counted_buffers p x (Ok false) = ((omega arith, omega arith), tt, tt)
+  counted_buffers p x (Err e) = ((omega arith, omega arith), tt, tt)
 
-  pub count_weighs : (held : Option (ℕ × A)) (x : A) → Always (λ t. ItemWeighs {E = E} stop_comes 1 held_one held t) (count_plan held x)
-  count_weighs None x = (omega arith, omega arith)
-  count_weighs (Some p) x = λ v. counted_weighs p x v
+  pub count_buffers : (held : Option (ℕ × A)) (x : A) → Always (λ t. ItemBuffers {E = E} held_one held t) (count_plan held x)
+  count_buffers None x = ((omega arith, omega arith), tt, omega arith)
+  count_buffers (Some p) x = λ v. counted_buffers p x v
 
   count_stop_weighs : (held : Option (ℕ × A)) (stop : Option E) → StopWeighs stop_comes 1 held_one held stop (count_stops held stop)
   count_stop_weighs held stop = before_stop_weighs held_one held None held stop refl refl
 
 pub is_stage_count : {F A E : Type 0} (call : F → A × A → Result Bool E → F → Type 0) → IsStage stop_comes (plan_meets call count_plan count_stops) 1 (λ p. held_one p.0)
-is_stage_count {E = E} call = is_stage_plan stop_comes 1 held_one call count_plan count_stops (count_weighs E) (count_stop_weighs E)
+is_stage_count {E = E} call = is_stage_buffering held_one call count_plan count_stops (count_buffers E) (count_stop_weighs E)
 
 pub lawful_dedup_with_count : {S A E : Type 0} {m : Contract S A E} (eq : A → A → Bool) → Lawful m → Lawful (dedup_with_count_contract eq m)
 lawful_dedup_with_count eq l = lawful_plan (lawful_bounded l) stop_comes (calls_function (are_equal eq)) count_plan count_stops 1 held_one (held_hints held_one) (is_stage_count (calls_function (are_equal eq)))

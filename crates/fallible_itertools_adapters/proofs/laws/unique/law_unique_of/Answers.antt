@@ -1,5 +1,6 @@
 -- What was kept is seen, and is found first.
-use Rattle.fallible_itertools_adapters.proofs.Lemmas.UniqueOf.{failure_last, failures_of_unique, find_in_unique, item_last, unique_distinct, unique_of_empty_is_empty}
+use Rattle.fallible_itertools_adapters.proofs.Lemmas.UniqueByOf.{unique_distinct}
+use Rattle.fallible_itertools_adapters.proofs.Lemmas.UniqueOf.{failure_last, failures_of_unique, find_in_unique, item_last, unique_of_empty_is_empty}
 use Rattle.fallible_itertools_adapters.proofs.laws.unique.law_unique_of.Goals as goal
 
 pub returns-clause-distinct : goal.returns-clause-distinct
