@@ -2,6 +2,7 @@
 pub mod AllUnique
 pub mod CheckedSum
 pub mod CmpBy
+pub mod Contents
 pub mod Converting
 pub mod Counts
 pub mod Equal

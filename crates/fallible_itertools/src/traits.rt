@@ -32,6 +32,7 @@ ghost use Rattle.fallible_itertools_adapters.specs.Chunks.{chunked, chunks_contr
 ghost use Rattle.fallible_itertools_adapters.specs.Coalesce as coalesce;
 ghost use Rattle.fallible_itertools.specs.CmpBy as comparing;
 ghost use Rattle.fallible_itertools.specs.Converting as trying;
+ghost use Rattle.fallible_itertools.specs.Contents.{ContentsOf};
 ghost use Rattle.fallible_itertools_adapters.specs.Copied.{copied_contract, copied_parts};
 ghost use Rattle.fallible_itertools.specs.Counts.{IsCountsOf};
 ghost use Rattle.fallible_itertools_adapters.specs.Dedup.{dedup_contract, dedup_parts, dedup_stops, deduped};
@@ -1873,9 +1874,7 @@ pub trait FallibleItertools: FallibleIterator {
         ensures value { OverList Self.contract.steps self
             (λ l. list.CollectedAs (IsCountsOf Self.Item.eq) l result) }
         ensures contents { OverList Self.contract.steps self
-            (λ l. IfOk result (list.MadeOf (IsCountsOf Self.Item.eq) (list.collected l))) }
-        ensures failure { OverList Self.contract.steps self
-            (λ l. (e : Self.Error) → result ≡ Err (Source e) → list.collected l ≡ Err e) }
+            (λ l. ContentsOf (IsCountsOf Self.Item.eq) l result) }
     {
         match self.collect::<Tally<Self::Item>>(alloc) {
             Ok(made) => Ok(made.counts),
@@ -1919,11 +1918,7 @@ pub trait FallibleItertools: FallibleIterator {
         ensures value { OverListWith (list.Acts (call_by_value F.FnMut) f) Self.contract.steps self
             (λ h l. list.CollectedAs (IsCountsOf K.eq) (list.mapped h l) result) }
         ensures contents { OverListWith (list.Acts (call_by_value F.FnMut) f) Self.contract.steps self
-            (λ h l. IfOk result (list.MadeOf (IsCountsOf K.eq)
-            (list.collected (list.mapped h l)))) }
-        ensures failure { OverListWith (list.Acts (call_by_value F.FnMut) f) Self.contract.steps self
-            (λ h l. (e : Self.Error) → result ≡ Err (Source e)
-            → list.collected (list.mapped h l) ≡ Err e) }
+            (λ h l. ContentsOf (IsCountsOf K.eq) (list.mapped h l) result) }
     {
         self.map(f).counts(alloc)
     }
@@ -1961,9 +1956,7 @@ pub trait FallibleItertools: FallibleIterator {
         ensures value { OverList Self.contract.steps self
             (λ l. list.CollectedAs (IsGroupMapOf K.eq) l result) }
         ensures contents { OverList Self.contract.steps self
-            (λ l. IfOk result (list.MadeOf (IsGroupMapOf K.eq) (list.collected l))) }
-        ensures failure { OverList Self.contract.steps self
-            (λ l. (e : Self.Error) → result ≡ Err (Source e) → list.collected l ≡ Err e) }
+            (λ l. ContentsOf (IsGroupMapOf K.eq) l result) }
     {
         match self.collect::<GroupMap<K, V>>(alloc) {
             Ok(made) => Ok(made.groups),
@@ -2050,10 +2043,7 @@ pub trait FallibleItertools: FallibleIterator {
         ensures value { OverListWith (list.Acts (call_by_reference F.FnMut) f) Self.contract.steps self
             (λ h l. list.CollectedAs (IsGroupMapOf K.eq) (keyed h l) result) }
         ensures contents { OverListWith (list.Acts (call_by_reference F.FnMut) f) Self.contract.steps self
-            (λ h l. IfOk result (list.MadeOf (IsGroupMapOf K.eq) (list.collected (keyed h l)))) }
-        ensures failure { OverListWith (list.Acts (call_by_reference F.FnMut) f) Self.contract.steps self
-            (λ h l. (e : Self.Error) → result ≡ Err (Source e)
-            → list.collected (keyed h l) ≡ Err e) }
+            (λ h l. ContentsOf (IsGroupMapOf K.eq) (keyed h l) result) }
     {
         Keyed { it: self, f }.into_group_map(alloc)
     }
@@ -2110,13 +2100,8 @@ pub trait FallibleItertools: FallibleIterator {
         ensures contents { OverListWith (list.Acts (call_by_reference F.FnMut) key)
             Self.contract.steps self (λ k l. (h : B → Self.Item → Result B Self.Error)
             → list.ActsWith (fold.call_with G.FnMut) f h
-            → IfOk result (list.MadeOf (IsKeyFoldOf K.eq h init)
-            (list.collected (checked_folds K.eq h init [] (keyed k l))))) }
-        ensures failure { OverListWith (list.Acts (call_by_reference F.FnMut) key)
-            Self.contract.steps self (λ k l. (h : B → Self.Item → Result B Self.Error)
-            → list.ActsWith (fold.call_with G.FnMut) f h
-            → (e : Self.Error) → result ≡ Err (Source e)
-            → list.collected (checked_folds K.eq h init [] (keyed k l)) ≡ Err e) }
+            → ContentsOf (IsKeyFoldOf K.eq h init)
+            (checked_folds K.eq h init [] (keyed k l)) result) }
     {
         let mut it = Keyed { it: self, f: key };
         let mut state = (HashMap::new(alloc), f);
@@ -2176,11 +2161,7 @@ pub trait FallibleItertools: FallibleIterator {
         ensures value { OverListWith (list.Acts (call_by_value F.FnMut) f) Self.contract.steps self
             (λ h l. list.CollectedAs (MadeOfEithers L.made R.made) (list.mapped h l) result) }
         ensures contents { OverListWith (list.Acts (call_by_value F.FnMut) f) Self.contract.steps self
-            (λ h l. IfOk result (list.MadeOf (MadeOfEithers L.made R.made)
-            (list.collected (list.mapped h l)))) }
-        ensures failure { OverListWith (list.Acts (call_by_value F.FnMut) f) Self.contract.steps self
-            (λ h l. (e : Self.Error) → result ≡ Err (Source e)
-            → list.collected (list.mapped h l) ≡ Err e) }
+            (λ h l. ContentsOf (MadeOfEithers L.made R.made) (list.mapped h l) result) }
     {
         self.map(f).collect(alloc)
     }
@@ -2250,9 +2231,7 @@ pub trait FallibleItertools: FallibleIterator {
         ensures value { OverList Self.contract.steps self
             (λ l. list.CollectedAs (IsSortedOf Self.Item.cmp) l result) }
         ensures contents { OverList Self.contract.steps self
-            (λ l. IfOk result (list.MadeOf (IsSortedOf Self.Item.cmp) (list.collected l))) }
-        ensures failure { OverList Self.contract.steps self
-            (λ l. (e : Self.Error) → result ≡ Err (Source e) → list.collected l ≡ Err e) }
+            (λ l. ContentsOf (IsSortedOf Self.Item.cmp) l result) }
     {
         sorted::sorted_items(self.collect(alloc))
     }
@@ -2370,9 +2349,7 @@ pub trait FallibleItertools: FallibleIterator {
         ensures value { OverList Self.contract.steps self
             (λ l. list.CollectedAs (HasItemsInOrder Self.Item.cmp) l result) }
         ensures contents { OverList Self.contract.steps self
-            (λ l. IfOk result (list.MadeOf (HasItemsInOrder Self.Item.cmp) (list.collected l))) }
-        ensures failure { OverList Self.contract.steps self
-            (λ l. (e : Self.Error) → result ≡ Err (Source e) → list.collected l ≡ Err e) }
+            (λ l. ContentsOf (HasItemsInOrder Self.Item.cmp) l result) }
     {
         sorted_unstable::items_in_order(self.collect(alloc))
     }
@@ -2498,10 +2475,8 @@ pub trait FallibleItertools: FallibleIterator {
             (JoinedAs Self.Item.output separator.now) ⊥ (λ _ _. ⊤) self result }
         ensures value { OverList Self.contract.steps self
             (λ l. list.CollectedAs (JoinedAs Self.Item.output separator.now) l result) }
-        ensures contents { OverList Self.contract.steps self (λ l. IfOk result
-            (list.MadeOf (JoinedAs Self.Item.output separator.now) (list.collected l))) }
-        ensures failure { OverList Self.contract.steps self
-            (λ l. (e : Self.Error) → result ≡ Err (Source e) → list.collected l ≡ Err e) }
+        ensures contents { OverList Self.contract.steps self
+            (λ l. ContentsOf (JoinedAs Self.Item.output separator.now) l result) }
     {
         let mut state = (false, String::new(alloc));
         match self.drive(&mut state, &JoinTurn { separator }) {
@@ -2544,9 +2519,7 @@ pub trait FallibleItertools: FallibleIterator {
         ensures value { OverList Self.contract.steps self
             (λ l. list.CollectedAs (IsSmallestOf Self.Item.cmp k) l result) }
         ensures contents { OverList Self.contract.steps self
-            (λ l. IfOk result (list.MadeOf (IsSmallestOf Self.Item.cmp k) (list.collected l))) }
-        ensures failure { OverList Self.contract.steps self
-            (λ l. (e : Self.Error) → result ≡ Err (Source e) → list.collected l ≡ Err e) }
+            (λ l. ContentsOf (IsSmallestOf Self.Item.cmp k) l result) }
     {
         let mut kept = Vec::new(alloc);
         match self.drive(&mut kept, &k_smallest::SmallestTurn { k }) {
@@ -2590,9 +2563,7 @@ pub trait FallibleItertools: FallibleIterator {
         ensures value { OverList Self.contract.steps self
             (λ l. list.CollectedAs (IsTailOf deque_items n) l result) }
         ensures contents { OverList Self.contract.steps self
-            (λ l. IfOk result (list.MadeOf (IsTailOf deque_items n) (list.collected l))) }
-        ensures failure { OverList Self.contract.steps self
-            (λ l. (e : Self.Error) → result ≡ Err (Source e) → list.collected l ≡ Err e) }
+            (λ l. ContentsOf (IsTailOf deque_items n) l result) }
     {
         let mut kept = VecDeque::new(alloc);
         match self.drive(&mut kept, &tail::TailTurn { n }) {
