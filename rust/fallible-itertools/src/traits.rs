@@ -2162,9 +2162,7 @@ pub trait FallibleItertools: FallibleIterator + Sized {
     /// ensures value { OverList Self.contract.steps self
     ///     (λ l. list.CollectedAs (IsCountsOf Self.Item.eq) l result) }
     /// ensures contents { OverList Self.contract.steps self
-    ///     (λ l. IfOk result (list.MadeOf (IsCountsOf Self.Item.eq) (list.collected l))) }
-    /// ensures failure { OverList Self.contract.steps self
-    ///     (λ l. (e : Self.Error) → result ≡ Err (Source e) → list.collected l ≡ Err e) }
+    ///     (λ l. ContentsOf (IsCountsOf Self.Item.eq) l result) }
     /// ```
     /// </details>
     #[cfg(feature = "std")]
@@ -2211,11 +2209,7 @@ pub trait FallibleItertools: FallibleIterator + Sized {
     /// ensures value { OverListWith (list.Acts (call_by_value F.FnMut) f) Self.contract.steps self
     ///     (λ h l. list.CollectedAs (IsCountsOf K.eq) (list.mapped h l) result) }
     /// ensures contents { OverListWith (list.Acts (call_by_value F.FnMut) f) Self.contract.steps self
-    ///     (λ h l. IfOk result (list.MadeOf (IsCountsOf K.eq)
-    ///     (list.collected (list.mapped h l)))) }
-    /// ensures failure { OverListWith (list.Acts (call_by_value F.FnMut) f) Self.contract.steps self
-    ///     (λ h l. (e : Self.Error) → result ≡ Err (Source e)
-    ///     → list.collected (list.mapped h l) ≡ Err e) }
+    ///     (λ h l. ContentsOf (IsCountsOf K.eq) (list.mapped h l) result) }
     /// ```
     /// </details>
     #[cfg(feature = "std")]
@@ -2256,9 +2250,7 @@ pub trait FallibleItertools: FallibleIterator + Sized {
     /// ensures value { OverList Self.contract.steps self
     ///     (λ l. list.CollectedAs (IsGroupMapOf K.eq) l result) }
     /// ensures contents { OverList Self.contract.steps self
-    ///     (λ l. IfOk result (list.MadeOf (IsGroupMapOf K.eq) (list.collected l))) }
-    /// ensures failure { OverList Self.contract.steps self
-    ///     (λ l. (e : Self.Error) → result ≡ Err (Source e) → list.collected l ≡ Err e) }
+    ///     (λ l. ContentsOf (IsGroupMapOf K.eq) l result) }
     /// ```
     /// </details>
     #[cfg(feature = "std")]
@@ -2350,10 +2342,7 @@ pub trait FallibleItertools: FallibleIterator + Sized {
     /// ensures value { OverListWith (list.Acts (call_by_reference F.FnMut) f) Self.contract.steps self
     ///     (λ h l. list.CollectedAs (IsGroupMapOf K.eq) (keyed h l) result) }
     /// ensures contents { OverListWith (list.Acts (call_by_reference F.FnMut) f) Self.contract.steps self
-    ///     (λ h l. IfOk result (list.MadeOf (IsGroupMapOf K.eq) (list.collected (keyed h l)))) }
-    /// ensures failure { OverListWith (list.Acts (call_by_reference F.FnMut) f) Self.contract.steps self
-    ///     (λ h l. (e : Self.Error) → result ≡ Err (Source e)
-    ///     → list.collected (keyed h l) ≡ Err e) }
+    ///     (λ h l. ContentsOf (IsGroupMapOf K.eq) (keyed h l) result) }
     /// ```
     /// </details>
     #[cfg(feature = "std")]
@@ -2406,13 +2395,8 @@ pub trait FallibleItertools: FallibleIterator + Sized {
     /// ensures contents { OverListWith (list.Acts (call_by_reference F.FnMut) key)
     ///     Self.contract.steps self (λ k l. (h : B → Self.Item → Result B Self.Error)
     ///     → list.ActsWith (fold.call_with G.FnMut) f h
-    ///     → IfOk result (list.MadeOf (IsKeyFoldOf K.eq h init)
-    ///     (list.collected (checked_folds K.eq h init [] (keyed k l))))) }
-    /// ensures failure { OverListWith (list.Acts (call_by_reference F.FnMut) key)
-    ///     Self.contract.steps self (λ k l. (h : B → Self.Item → Result B Self.Error)
-    ///     → list.ActsWith (fold.call_with G.FnMut) f h
-    ///     → (e : Self.Error) → result ≡ Err (Source e)
-    ///     → list.collected (checked_folds K.eq h init [] (keyed k l)) ≡ Err e) }
+    ///     → ContentsOf (IsKeyFoldOf K.eq h init)
+    ///     (checked_folds K.eq h init [] (keyed k l)) result) }
     /// ```
     /// </details>
     #[cfg(feature = "std")]
@@ -2472,11 +2456,7 @@ pub trait FallibleItertools: FallibleIterator + Sized {
     /// ensures value { OverListWith (list.Acts (call_by_value F.FnMut) f) Self.contract.steps self
     ///     (λ h l. list.CollectedAs (MadeOfEithers L.made R.made) (list.mapped h l) result) }
     /// ensures contents { OverListWith (list.Acts (call_by_value F.FnMut) f) Self.contract.steps self
-    ///     (λ h l. IfOk result (list.MadeOf (MadeOfEithers L.made R.made)
-    ///     (list.collected (list.mapped h l)))) }
-    /// ensures failure { OverListWith (list.Acts (call_by_value F.FnMut) f) Self.contract.steps self
-    ///     (λ h l. (e : Self.Error) → result ≡ Err (Source e)
-    ///     → list.collected (list.mapped h l) ≡ Err e) }
+    ///     (λ h l. ContentsOf (MadeOfEithers L.made R.made) (list.mapped h l) result) }
     /// ```
     /// </details>
     fn partition_map<L, R, F, A, B>(self, f: F) -> Result<(L, R), Self::Error>
@@ -2559,9 +2539,7 @@ pub trait FallibleItertools: FallibleIterator + Sized {
     /// ensures value { OverList Self.contract.steps self
     ///     (λ l. list.CollectedAs (IsSortedOf Self.Item.cmp) l result) }
     /// ensures contents { OverList Self.contract.steps self
-    ///     (λ l. IfOk result (list.MadeOf (IsSortedOf Self.Item.cmp) (list.collected l))) }
-    /// ensures failure { OverList Self.contract.steps self
-    ///     (λ l. (e : Self.Error) → result ≡ Err (Source e) → list.collected l ≡ Err e) }
+    ///     (λ l. ContentsOf (IsSortedOf Self.Item.cmp) l result) }
     /// ```
     /// </details>
     #[cfg(feature = "alloc")]
@@ -2696,9 +2674,7 @@ pub trait FallibleItertools: FallibleIterator + Sized {
     /// ensures value { OverList Self.contract.steps self
     ///     (λ l. list.CollectedAs (HasItemsInOrder Self.Item.cmp) l result) }
     /// ensures contents { OverList Self.contract.steps self
-    ///     (λ l. IfOk result (list.MadeOf (HasItemsInOrder Self.Item.cmp) (list.collected l))) }
-    /// ensures failure { OverList Self.contract.steps self
-    ///     (λ l. (e : Self.Error) → result ≡ Err (Source e) → list.collected l ≡ Err e) }
+    ///     (λ l. ContentsOf (HasItemsInOrder Self.Item.cmp) l result) }
     /// ```
     /// </details>
     #[cfg(feature = "alloc")]
@@ -2835,10 +2811,8 @@ pub trait FallibleItertools: FallibleIterator + Sized {
     ///     (JoinedAs Self.Item.output separator.now) ⊥ (λ _ _. ⊤) self result }
     /// ensures value { OverList Self.contract.steps self
     ///     (λ l. list.CollectedAs (JoinedAs Self.Item.output separator.now) l result) }
-    /// ensures contents { OverList Self.contract.steps self (λ l. IfOk result
-    ///     (list.MadeOf (JoinedAs Self.Item.output separator.now) (list.collected l))) }
-    /// ensures failure { OverList Self.contract.steps self
-    ///     (λ l. (e : Self.Error) → result ≡ Err (Source e) → list.collected l ≡ Err e) }
+    /// ensures contents { OverList Self.contract.steps self
+    ///     (λ l. ContentsOf (JoinedAs Self.Item.output separator.now) l result) }
     /// ```
     /// </details>
     #[cfg(feature = "alloc")]
@@ -2880,9 +2854,7 @@ pub trait FallibleItertools: FallibleIterator + Sized {
     /// ensures value { OverList Self.contract.steps self
     ///     (λ l. list.CollectedAs (IsSmallestOf Self.Item.cmp k) l result) }
     /// ensures contents { OverList Self.contract.steps self
-    ///     (λ l. IfOk result (list.MadeOf (IsSmallestOf Self.Item.cmp k) (list.collected l))) }
-    /// ensures failure { OverList Self.contract.steps self
-    ///     (λ l. (e : Self.Error) → result ≡ Err (Source e) → list.collected l ≡ Err e) }
+    ///     (λ l. ContentsOf (IsSmallestOf Self.Item.cmp k) l result) }
     /// ```
     /// </details>
     #[cfg(feature = "alloc")]
@@ -2923,9 +2895,7 @@ pub trait FallibleItertools: FallibleIterator + Sized {
     /// ensures value { OverList Self.contract.steps self
     ///     (λ l. list.CollectedAs (IsTailOf deque_items n) l result) }
     /// ensures contents { OverList Self.contract.steps self
-    ///     (λ l. IfOk result (list.MadeOf (IsTailOf deque_items n) (list.collected l))) }
-    /// ensures failure { OverList Self.contract.steps self
-    ///     (λ l. (e : Self.Error) → result ≡ Err (Source e) → list.collected l ≡ Err e) }
+    ///     (λ l. ContentsOf (IsTailOf deque_items n) l result) }
     /// ```
     /// </details>
     #[cfg(feature = "alloc")]
