@@ -1471,12 +1471,7 @@ pub trait FallibleItertools: FallibleIterator + Sized {
     /// As it is proved, in [these words](crate::words):
     ///
     /// ```text
-    /// ensures left { sides.left_source (merge_parts result) ≡ self }
-    /// ensures left_ended { sides.left_ended (merge_parts result) ≡ false }
-    /// ensures left_held { sides.left_item (merge_parts result) ≡ None }
-    /// ensures right { I.into_gives other (sides.right_source (merge_parts result)) }
-    /// ensures right_ended { sides.right_ended (merge_parts result) ≡ false }
-    /// ensures right_held { sides.right_item (merge_parts result) ≡ None }
+    /// ensures begun { BothBegun self I.into_gives other (merge_parts result) }
     /// ensures bounded { (a b k : ℕ) → Self.contract.bound self a
     ///     → I.IntoFallibleIter.contract.bound
     ///     (sides.right_source (merge_parts result)) b → a + b ≤ k
@@ -1525,12 +1520,7 @@ pub trait FallibleItertools: FallibleIterator + Sized {
     ///     → IsCallable (sides.call_on_two (call_at_two F.FnMut))
     ///     (λ g z. takes_at_two F.FnMut g z.0 z.1) (λ z. Self.contract.may_give self z.0
     ///     × I.IntoFallibleIter.contract.may_give right z.1) f }
-    /// ensures left { sides.left_source (merge_by.merge_by_parts result) ≡ self }
-    /// ensures left_ended { sides.left_ended (merge_by.merge_by_parts result) ≡ false }
-    /// ensures left_held { sides.left_item (merge_by.merge_by_parts result) ≡ None }
-    /// ensures right { I.into_gives other (sides.right_source (merge_by.merge_by_parts result)) }
-    /// ensures right_ended { sides.right_ended (merge_by.merge_by_parts result) ≡ false }
-    /// ensures right_held { sides.right_item (merge_by.merge_by_parts result) ≡ None }
+    /// ensures begun { BothBegun self I.into_gives other (merge_by.merge_by_parts result) }
     /// ensures closure { sides.asked_closure (merge_by.merge_by_parts result) ≡ f }
     /// ensures bounded { (a b k : ℕ) → Self.contract.bound self a
     ///     → I.IntoFallibleIter.contract.bound
@@ -1587,13 +1577,7 @@ pub trait FallibleItertools: FallibleIterator + Sized {
     ///     → IsCallable (sides.call_on_two (join_by.call_at_both F.FnMut))
     ///     (λ g z. join_by.takes_at_both F.FnMut g z.0 z.1) (λ z. Self.contract.may_give self z.0
     ///     × I.IntoFallibleIter.contract.may_give right z.1) f }
-    /// ensures left { sides.left_source (join_by.merge_join_by_parts result) ≡ self }
-    /// ensures left_ended { sides.left_ended (join_by.merge_join_by_parts result) ≡ false }
-    /// ensures left_held { sides.left_item (join_by.merge_join_by_parts result) ≡ None }
-    /// ensures right { I.into_gives other
-    ///     (sides.right_source (join_by.merge_join_by_parts result)) }
-    /// ensures right_ended { sides.right_ended (join_by.merge_join_by_parts result) ≡ false }
-    /// ensures right_held { sides.right_item (join_by.merge_join_by_parts result) ≡ None }
+    /// ensures begun { BothBegun self I.into_gives other (join_by.merge_join_by_parts result) }
     /// ensures closure { sides.asked_closure (join_by.merge_join_by_parts result) ≡ f }
     /// ensures bounded { (a b k : ℕ) → Self.contract.bound self a
     ///     → I.IntoFallibleIter.contract.bound
@@ -1645,15 +1629,8 @@ pub trait FallibleItertools: FallibleIterator + Sized {
     /// As it is proved, in [these words](crate::words):
     ///
     /// ```text
-    /// ensures left { sides.left_source
-    ///     (zip_longest.zip_longest_parts {B = I.Item} result) ≡ self }
-    /// ensures left_ended { sides.left_ended
-    ///     (zip_longest.zip_longest_parts {B = I.Item} result) ≡ false }
-    /// ensures held { sides.left_item (zip_longest.zip_longest_parts {B = I.Item} result) ≡ None }
-    /// ensures right { I.into_gives other
-    ///     (sides.right_source (zip_longest.zip_longest_parts {B = I.Item} result)) }
-    /// ensures right_ended { sides.right_ended
-    ///     (zip_longest.zip_longest_parts {B = I.Item} result) ≡ false }
+    /// ensures begun { BothBegun self I.into_gives other
+    ///     (zip_longest.zip_longest_parts {B = I.Item} result) }
     /// ensures bounded { (a b k : ℕ) → Self.contract.bound self a
     ///     → I.IntoFallibleIter.contract.bound
     ///     (sides.right_source (zip_longest.zip_longest_parts {B = I.Item} result)) b → a + b ≤ k
@@ -1699,12 +1676,7 @@ pub trait FallibleItertools: FallibleIterator + Sized {
     ///
     /// ```text
     /// requires { IsCallable (call_of_none F.FnMut) (λ g _. F.pre g) (λ _. ⊤) unequal }
-    /// ensures left { sides.left_source (zip_eq.zip_eq_parts {B = I.Item} result) ≡ self }
-    /// ensures left_ended { sides.left_ended (zip_eq.zip_eq_parts {B = I.Item} result) ≡ false }
-    /// ensures held { sides.left_item (zip_eq.zip_eq_parts {B = I.Item} result) ≡ None }
-    /// ensures right { I.into_gives other
-    ///     (sides.right_source (zip_eq.zip_eq_parts {B = I.Item} result)) }
-    /// ensures right_ended { sides.right_ended (zip_eq.zip_eq_parts {B = I.Item} result) ≡ false }
+    /// ensures begun { BothBegun self I.into_gives other (zip_eq.zip_eq_parts {B = I.Item} result) }
     /// ensures closure { sides.asked_closure (zip_eq.zip_eq_parts {B = I.Item} result) ≡ unequal }
     /// ensures bounded { (a b k : ℕ) → Self.contract.bound self a
     ///     → I.IntoFallibleIter.contract.bound
