@@ -3,6 +3,7 @@ pub mod AllUnique
 pub mod AtMostOne
 pub mod CheckedSum
 pub mod CmpBy
+pub mod Contents
 pub mod Conversions
 pub mod Counts
 pub mod Equal

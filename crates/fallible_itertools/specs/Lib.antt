@@ -1,7 +1,9 @@
 -- What the clauses of `src/` cite, in `Laws` what follows from it, and what the two crates below cite, handed on, so that a crate above names this one alone.
 pub mod AllUnique
+pub mod Begun
 pub mod CheckedSum
 pub mod CmpBy
+pub mod Contents
 pub mod Converting
 pub mod Counts
 pub mod Equal

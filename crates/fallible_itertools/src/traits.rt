@@ -27,11 +27,13 @@ ghost use Rattle.fallible_iterator.specs.OneToOne.Map.{map_contract};
 ghost use Rattle.fallible_iterator.specs.Picking.{call_at_two, takes_at_two};
 ghost use Rattle.fallible_iterator.specs.Searching as search;
 ghost use Rattle.fallible_itertools.specs.AllUnique.{AllUniqueAs, AllUniqueDrains, rest_repeated};
+ghost use Rattle.fallible_itertools.specs.Begun.{BothBegun};
 ghost use Rattle.fallible_itertools_adapters.specs.ChunkBy.{MadeGroup, chunk_by_contract, chunk_by_parts, chunk_by_plan, chunk_by_stops, chunked_by, puts_by_key, takes_key};
 ghost use Rattle.fallible_itertools_adapters.specs.Chunks.{chunked, chunks_contract, chunks_parts};
 ghost use Rattle.fallible_itertools_adapters.specs.Coalesce as coalesce;
 ghost use Rattle.fallible_itertools.specs.CmpBy as comparing;
 ghost use Rattle.fallible_itertools.specs.Converting as trying;
+ghost use Rattle.fallible_itertools.specs.Contents.{ContentsOf};
 ghost use Rattle.fallible_itertools_adapters.specs.Copied.{copied_contract, copied_parts};
 ghost use Rattle.fallible_itertools.specs.Counts.{IsCountsOf};
 ghost use Rattle.fallible_itertools_adapters.specs.Dedup.{dedup_contract, dedup_parts, dedup_stops, deduped};
@@ -1288,12 +1290,7 @@ pub trait FallibleItertools: FallibleIterator {
     where
         I: IntoFallibleIterator<Item = Self::Item, Error = Self::Error>,
         Self::Item: PartialOrd + Drop,
-        ensures left { sides.left_source (merge_parts result) ≡ self }
-        ensures left_ended { sides.left_ended (merge_parts result) ≡ false }
-        ensures left_held { sides.left_item (merge_parts result) ≡ None }
-        ensures right { I.into_gives other (sides.right_source (merge_parts result)) }
-        ensures right_ended { sides.right_ended (merge_parts result) ≡ false }
-        ensures right_held { sides.right_item (merge_parts result) ≡ None }
+        ensures begun { BothBegun self I.into_gives other (merge_parts result) }
         ensures bounded { (a b k : ℕ) → Self.contract.bound self a
             → I.IntoFallibleIter.contract.bound
             (sides.right_source (merge_parts result)) b → a + b ≤ k
@@ -1334,12 +1331,7 @@ pub trait FallibleItertools: FallibleIterator {
             → IsCallable (sides.call_on_two (call_at_two F.FnMut))
             (λ g z. takes_at_two F.FnMut g z.0 z.1) (λ z. Self.contract.may_give self z.0
             × I.IntoFallibleIter.contract.may_give right z.1) f }
-        ensures left { sides.left_source (merge_by.merge_by_parts result) ≡ self }
-        ensures left_ended { sides.left_ended (merge_by.merge_by_parts result) ≡ false }
-        ensures left_held { sides.left_item (merge_by.merge_by_parts result) ≡ None }
-        ensures right { I.into_gives other (sides.right_source (merge_by.merge_by_parts result)) }
-        ensures right_ended { sides.right_ended (merge_by.merge_by_parts result) ≡ false }
-        ensures right_held { sides.right_item (merge_by.merge_by_parts result) ≡ None }
+        ensures begun { BothBegun self I.into_gives other (merge_by.merge_by_parts result) }
         ensures closure { sides.asked_closure (merge_by.merge_by_parts result) ≡ f }
         ensures bounded { (a b k : ℕ) → Self.contract.bound self a
             → I.IntoFallibleIter.contract.bound
@@ -1387,13 +1379,7 @@ pub trait FallibleItertools: FallibleIterator {
             → IsCallable (sides.call_on_two (join_by.call_at_both F.FnMut))
             (λ g z. join_by.takes_at_both F.FnMut g z.0 z.1) (λ z. Self.contract.may_give self z.0
             × I.IntoFallibleIter.contract.may_give right z.1) f }
-        ensures left { sides.left_source (join_by.merge_join_by_parts result) ≡ self }
-        ensures left_ended { sides.left_ended (join_by.merge_join_by_parts result) ≡ false }
-        ensures left_held { sides.left_item (join_by.merge_join_by_parts result) ≡ None }
-        ensures right { I.into_gives other
-            (sides.right_source (join_by.merge_join_by_parts result)) }
-        ensures right_ended { sides.right_ended (join_by.merge_join_by_parts result) ≡ false }
-        ensures right_held { sides.right_item (join_by.merge_join_by_parts result) ≡ None }
+        ensures begun { BothBegun self I.into_gives other (join_by.merge_join_by_parts result) }
         ensures closure { sides.asked_closure (join_by.merge_join_by_parts result) ≡ f }
         ensures bounded { (a b k : ℕ) → Self.contract.bound self a
             → I.IntoFallibleIter.contract.bound
@@ -1435,15 +1421,8 @@ pub trait FallibleItertools: FallibleIterator {
     final fn zip_longest<I>(self, other: I) -> ZipLongest<Self, I::IntoFallibleIter>
     where
         I: IntoFallibleIterator<Error = Self::Error>,
-        ensures left { sides.left_source
-            (zip_longest.zip_longest_parts {B = I.Item} result) ≡ self }
-        ensures left_ended { sides.left_ended
-            (zip_longest.zip_longest_parts {B = I.Item} result) ≡ false }
-        ensures held { sides.left_item (zip_longest.zip_longest_parts {B = I.Item} result) ≡ None }
-        ensures right { I.into_gives other
-            (sides.right_source (zip_longest.zip_longest_parts {B = I.Item} result)) }
-        ensures right_ended { sides.right_ended
-            (zip_longest.zip_longest_parts {B = I.Item} result) ≡ false }
+        ensures begun { BothBegun self I.into_gives other
+            (zip_longest.zip_longest_parts {B = I.Item} result) }
         ensures bounded { (a b k : ℕ) → Self.contract.bound self a
             → I.IntoFallibleIter.contract.bound
             (sides.right_source (zip_longest.zip_longest_parts {B = I.Item} result)) b → a + b ≤ k
@@ -1482,12 +1461,7 @@ pub trait FallibleItertools: FallibleIterator {
         I: IntoFallibleIterator<Error = Self::Error>,
         F: FnMut() -> Self::Error,
         requires { IsCallable (call_of_none F.FnMut) (λ g _. F.pre g) (λ _. ⊤) unequal }
-        ensures left { sides.left_source (zip_eq.zip_eq_parts {B = I.Item} result) ≡ self }
-        ensures left_ended { sides.left_ended (zip_eq.zip_eq_parts {B = I.Item} result) ≡ false }
-        ensures held { sides.left_item (zip_eq.zip_eq_parts {B = I.Item} result) ≡ None }
-        ensures right { I.into_gives other
-            (sides.right_source (zip_eq.zip_eq_parts {B = I.Item} result)) }
-        ensures right_ended { sides.right_ended (zip_eq.zip_eq_parts {B = I.Item} result) ≡ false }
+        ensures begun { BothBegun self I.into_gives other (zip_eq.zip_eq_parts {B = I.Item} result) }
         ensures closure { sides.asked_closure (zip_eq.zip_eq_parts {B = I.Item} result) ≡ unequal }
         ensures bounded { (a b k : ℕ) → Self.contract.bound self a
             → I.IntoFallibleIter.contract.bound
@@ -1873,9 +1847,7 @@ pub trait FallibleItertools: FallibleIterator {
         ensures value { OverList Self.contract.steps self
             (λ l. list.CollectedAs (IsCountsOf Self.Item.eq) l result) }
         ensures contents { OverList Self.contract.steps self
-            (λ l. IfOk result (list.MadeOf (IsCountsOf Self.Item.eq) (list.collected l))) }
-        ensures failure { OverList Self.contract.steps self
-            (λ l. (e : Self.Error) → result ≡ Err (Source e) → list.collected l ≡ Err e) }
+            (λ l. ContentsOf (IsCountsOf Self.Item.eq) l result) }
     {
         match self.collect::<Tally<Self::Item>>(alloc) {
             Ok(made) => Ok(made.counts),
@@ -1919,11 +1891,7 @@ pub trait FallibleItertools: FallibleIterator {
         ensures value { OverListWith (list.Acts (call_by_value F.FnMut) f) Self.contract.steps self
             (λ h l. list.CollectedAs (IsCountsOf K.eq) (list.mapped h l) result) }
         ensures contents { OverListWith (list.Acts (call_by_value F.FnMut) f) Self.contract.steps self
-            (λ h l. IfOk result (list.MadeOf (IsCountsOf K.eq)
-            (list.collected (list.mapped h l)))) }
-        ensures failure { OverListWith (list.Acts (call_by_value F.FnMut) f) Self.contract.steps self
-            (λ h l. (e : Self.Error) → result ≡ Err (Source e)
-            → list.collected (list.mapped h l) ≡ Err e) }
+            (λ h l. ContentsOf (IsCountsOf K.eq) (list.mapped h l) result) }
     {
         self.map(f).counts(alloc)
     }
@@ -1961,9 +1929,7 @@ pub trait FallibleItertools: FallibleIterator {
         ensures value { OverList Self.contract.steps self
             (λ l. list.CollectedAs (IsGroupMapOf K.eq) l result) }
         ensures contents { OverList Self.contract.steps self
-            (λ l. IfOk result (list.MadeOf (IsGroupMapOf K.eq) (list.collected l))) }
-        ensures failure { OverList Self.contract.steps self
-            (λ l. (e : Self.Error) → result ≡ Err (Source e) → list.collected l ≡ Err e) }
+            (λ l. ContentsOf (IsGroupMapOf K.eq) l result) }
     {
         match self.collect::<GroupMap<K, V>>(alloc) {
             Ok(made) => Ok(made.groups),
@@ -2050,10 +2016,7 @@ pub trait FallibleItertools: FallibleIterator {
         ensures value { OverListWith (list.Acts (call_by_reference F.FnMut) f) Self.contract.steps self
             (λ h l. list.CollectedAs (IsGroupMapOf K.eq) (keyed h l) result) }
         ensures contents { OverListWith (list.Acts (call_by_reference F.FnMut) f) Self.contract.steps self
-            (λ h l. IfOk result (list.MadeOf (IsGroupMapOf K.eq) (list.collected (keyed h l)))) }
-        ensures failure { OverListWith (list.Acts (call_by_reference F.FnMut) f) Self.contract.steps self
-            (λ h l. (e : Self.Error) → result ≡ Err (Source e)
-            → list.collected (keyed h l) ≡ Err e) }
+            (λ h l. ContentsOf (IsGroupMapOf K.eq) (keyed h l) result) }
     {
         Keyed { it: self, f }.into_group_map(alloc)
     }
@@ -2110,13 +2073,8 @@ pub trait FallibleItertools: FallibleIterator {
         ensures contents { OverListWith (list.Acts (call_by_reference F.FnMut) key)
             Self.contract.steps self (λ k l. (h : B → Self.Item → Result B Self.Error)
             → list.ActsWith (fold.call_with G.FnMut) f h
-            → IfOk result (list.MadeOf (IsKeyFoldOf K.eq h init)
-            (list.collected (checked_folds K.eq h init [] (keyed k l))))) }
-        ensures failure { OverListWith (list.Acts (call_by_reference F.FnMut) key)
-            Self.contract.steps self (λ k l. (h : B → Self.Item → Result B Self.Error)
-            → list.ActsWith (fold.call_with G.FnMut) f h
-            → (e : Self.Error) → result ≡ Err (Source e)
-            → list.collected (checked_folds K.eq h init [] (keyed k l)) ≡ Err e) }
+            → ContentsOf (IsKeyFoldOf K.eq h init)
+            (checked_folds K.eq h init [] (keyed k l)) result) }
     {
         let mut it = Keyed { it: self, f: key };
         let mut state = (HashMap::new(alloc), f);
@@ -2176,11 +2134,7 @@ pub trait FallibleItertools: FallibleIterator {
         ensures value { OverListWith (list.Acts (call_by_value F.FnMut) f) Self.contract.steps self
             (λ h l. list.CollectedAs (MadeOfEithers L.made R.made) (list.mapped h l) result) }
         ensures contents { OverListWith (list.Acts (call_by_value F.FnMut) f) Self.contract.steps self
-            (λ h l. IfOk result (list.MadeOf (MadeOfEithers L.made R.made)
-            (list.collected (list.mapped h l)))) }
-        ensures failure { OverListWith (list.Acts (call_by_value F.FnMut) f) Self.contract.steps self
-            (λ h l. (e : Self.Error) → result ≡ Err (Source e)
-            → list.collected (list.mapped h l) ≡ Err e) }
+            (λ h l. ContentsOf (MadeOfEithers L.made R.made) (list.mapped h l) result) }
     {
         self.map(f).collect(alloc)
     }
@@ -2250,9 +2204,7 @@ pub trait FallibleItertools: FallibleIterator {
         ensures value { OverList Self.contract.steps self
             (λ l. list.CollectedAs (IsSortedOf Self.Item.cmp) l result) }
         ensures contents { OverList Self.contract.steps self
-            (λ l. IfOk result (list.MadeOf (IsSortedOf Self.Item.cmp) (list.collected l))) }
-        ensures failure { OverList Self.contract.steps self
-            (λ l. (e : Self.Error) → result ≡ Err (Source e) → list.collected l ≡ Err e) }
+            (λ l. ContentsOf (IsSortedOf Self.Item.cmp) l result) }
     {
         sorted::sorted_items(self.collect(alloc))
     }
@@ -2370,9 +2322,7 @@ pub trait FallibleItertools: FallibleIterator {
         ensures value { OverList Self.contract.steps self
             (λ l. list.CollectedAs (HasItemsInOrder Self.Item.cmp) l result) }
         ensures contents { OverList Self.contract.steps self
-            (λ l. IfOk result (list.MadeOf (HasItemsInOrder Self.Item.cmp) (list.collected l))) }
-        ensures failure { OverList Self.contract.steps self
-            (λ l. (e : Self.Error) → result ≡ Err (Source e) → list.collected l ≡ Err e) }
+            (λ l. ContentsOf (HasItemsInOrder Self.Item.cmp) l result) }
     {
         sorted_unstable::items_in_order(self.collect(alloc))
     }
@@ -2498,10 +2448,8 @@ pub trait FallibleItertools: FallibleIterator {
             (JoinedAs Self.Item.output separator.now) ⊥ (λ _ _. ⊤) self result }
         ensures value { OverList Self.contract.steps self
             (λ l. list.CollectedAs (JoinedAs Self.Item.output separator.now) l result) }
-        ensures contents { OverList Self.contract.steps self (λ l. IfOk result
-            (list.MadeOf (JoinedAs Self.Item.output separator.now) (list.collected l))) }
-        ensures failure { OverList Self.contract.steps self
-            (λ l. (e : Self.Error) → result ≡ Err (Source e) → list.collected l ≡ Err e) }
+        ensures contents { OverList Self.contract.steps self
+            (λ l. ContentsOf (JoinedAs Self.Item.output separator.now) l result) }
     {
         let mut state = (false, String::new(alloc));
         match self.drive(&mut state, &JoinTurn { separator }) {
@@ -2544,9 +2492,7 @@ pub trait FallibleItertools: FallibleIterator {
         ensures value { OverList Self.contract.steps self
             (λ l. list.CollectedAs (IsSmallestOf Self.Item.cmp k) l result) }
         ensures contents { OverList Self.contract.steps self
-            (λ l. IfOk result (list.MadeOf (IsSmallestOf Self.Item.cmp k) (list.collected l))) }
-        ensures failure { OverList Self.contract.steps self
-            (λ l. (e : Self.Error) → result ≡ Err (Source e) → list.collected l ≡ Err e) }
+            (λ l. ContentsOf (IsSmallestOf Self.Item.cmp k) l result) }
     {
         let mut kept = Vec::new(alloc);
         match self.drive(&mut kept, &k_smallest::SmallestTurn { k }) {
@@ -2590,9 +2536,7 @@ pub trait FallibleItertools: FallibleIterator {
         ensures value { OverList Self.contract.steps self
             (λ l. list.CollectedAs (IsTailOf deque_items n) l result) }
         ensures contents { OverList Self.contract.steps self
-            (λ l. IfOk result (list.MadeOf (IsTailOf deque_items n) (list.collected l))) }
-        ensures failure { OverList Self.contract.steps self
-            (λ l. (e : Self.Error) → result ≡ Err (Source e) → list.collected l ≡ Err e) }
+            (λ l. ContentsOf (IsTailOf deque_items n) l result) }
     {
         let mut kept = VecDeque::new(alloc);
         match self.drive(&mut kept, &tail::TailTurn { n }) {

@@ -1471,12 +1471,7 @@ pub trait FallibleItertools: FallibleIterator + Sized {
     /// As it is proved, in [these words](crate::words):
     ///
     /// ```text
-    /// ensures left { sides.left_source (merge_parts result) ≡ self }
-    /// ensures left_ended { sides.left_ended (merge_parts result) ≡ false }
-    /// ensures left_held { sides.left_item (merge_parts result) ≡ None }
-    /// ensures right { I.into_gives other (sides.right_source (merge_parts result)) }
-    /// ensures right_ended { sides.right_ended (merge_parts result) ≡ false }
-    /// ensures right_held { sides.right_item (merge_parts result) ≡ None }
+    /// ensures begun { BothBegun self I.into_gives other (merge_parts result) }
     /// ensures bounded { (a b k : ℕ) → Self.contract.bound self a
     ///     → I.IntoFallibleIter.contract.bound
     ///     (sides.right_source (merge_parts result)) b → a + b ≤ k
@@ -1525,12 +1520,7 @@ pub trait FallibleItertools: FallibleIterator + Sized {
     ///     → IsCallable (sides.call_on_two (call_at_two F.FnMut))
     ///     (λ g z. takes_at_two F.FnMut g z.0 z.1) (λ z. Self.contract.may_give self z.0
     ///     × I.IntoFallibleIter.contract.may_give right z.1) f }
-    /// ensures left { sides.left_source (merge_by.merge_by_parts result) ≡ self }
-    /// ensures left_ended { sides.left_ended (merge_by.merge_by_parts result) ≡ false }
-    /// ensures left_held { sides.left_item (merge_by.merge_by_parts result) ≡ None }
-    /// ensures right { I.into_gives other (sides.right_source (merge_by.merge_by_parts result)) }
-    /// ensures right_ended { sides.right_ended (merge_by.merge_by_parts result) ≡ false }
-    /// ensures right_held { sides.right_item (merge_by.merge_by_parts result) ≡ None }
+    /// ensures begun { BothBegun self I.into_gives other (merge_by.merge_by_parts result) }
     /// ensures closure { sides.asked_closure (merge_by.merge_by_parts result) ≡ f }
     /// ensures bounded { (a b k : ℕ) → Self.contract.bound self a
     ///     → I.IntoFallibleIter.contract.bound
@@ -1587,13 +1577,7 @@ pub trait FallibleItertools: FallibleIterator + Sized {
     ///     → IsCallable (sides.call_on_two (join_by.call_at_both F.FnMut))
     ///     (λ g z. join_by.takes_at_both F.FnMut g z.0 z.1) (λ z. Self.contract.may_give self z.0
     ///     × I.IntoFallibleIter.contract.may_give right z.1) f }
-    /// ensures left { sides.left_source (join_by.merge_join_by_parts result) ≡ self }
-    /// ensures left_ended { sides.left_ended (join_by.merge_join_by_parts result) ≡ false }
-    /// ensures left_held { sides.left_item (join_by.merge_join_by_parts result) ≡ None }
-    /// ensures right { I.into_gives other
-    ///     (sides.right_source (join_by.merge_join_by_parts result)) }
-    /// ensures right_ended { sides.right_ended (join_by.merge_join_by_parts result) ≡ false }
-    /// ensures right_held { sides.right_item (join_by.merge_join_by_parts result) ≡ None }
+    /// ensures begun { BothBegun self I.into_gives other (join_by.merge_join_by_parts result) }
     /// ensures closure { sides.asked_closure (join_by.merge_join_by_parts result) ≡ f }
     /// ensures bounded { (a b k : ℕ) → Self.contract.bound self a
     ///     → I.IntoFallibleIter.contract.bound
@@ -1645,15 +1629,8 @@ pub trait FallibleItertools: FallibleIterator + Sized {
     /// As it is proved, in [these words](crate::words):
     ///
     /// ```text
-    /// ensures left { sides.left_source
-    ///     (zip_longest.zip_longest_parts {B = I.Item} result) ≡ self }
-    /// ensures left_ended { sides.left_ended
-    ///     (zip_longest.zip_longest_parts {B = I.Item} result) ≡ false }
-    /// ensures held { sides.left_item (zip_longest.zip_longest_parts {B = I.Item} result) ≡ None }
-    /// ensures right { I.into_gives other
-    ///     (sides.right_source (zip_longest.zip_longest_parts {B = I.Item} result)) }
-    /// ensures right_ended { sides.right_ended
-    ///     (zip_longest.zip_longest_parts {B = I.Item} result) ≡ false }
+    /// ensures begun { BothBegun self I.into_gives other
+    ///     (zip_longest.zip_longest_parts {B = I.Item} result) }
     /// ensures bounded { (a b k : ℕ) → Self.contract.bound self a
     ///     → I.IntoFallibleIter.contract.bound
     ///     (sides.right_source (zip_longest.zip_longest_parts {B = I.Item} result)) b → a + b ≤ k
@@ -1699,12 +1676,7 @@ pub trait FallibleItertools: FallibleIterator + Sized {
     ///
     /// ```text
     /// requires { IsCallable (call_of_none F.FnMut) (λ g _. F.pre g) (λ _. ⊤) unequal }
-    /// ensures left { sides.left_source (zip_eq.zip_eq_parts {B = I.Item} result) ≡ self }
-    /// ensures left_ended { sides.left_ended (zip_eq.zip_eq_parts {B = I.Item} result) ≡ false }
-    /// ensures held { sides.left_item (zip_eq.zip_eq_parts {B = I.Item} result) ≡ None }
-    /// ensures right { I.into_gives other
-    ///     (sides.right_source (zip_eq.zip_eq_parts {B = I.Item} result)) }
-    /// ensures right_ended { sides.right_ended (zip_eq.zip_eq_parts {B = I.Item} result) ≡ false }
+    /// ensures begun { BothBegun self I.into_gives other (zip_eq.zip_eq_parts {B = I.Item} result) }
     /// ensures closure { sides.asked_closure (zip_eq.zip_eq_parts {B = I.Item} result) ≡ unequal }
     /// ensures bounded { (a b k : ℕ) → Self.contract.bound self a
     ///     → I.IntoFallibleIter.contract.bound
@@ -2162,9 +2134,7 @@ pub trait FallibleItertools: FallibleIterator + Sized {
     /// ensures value { OverList Self.contract.steps self
     ///     (λ l. list.CollectedAs (IsCountsOf Self.Item.eq) l result) }
     /// ensures contents { OverList Self.contract.steps self
-    ///     (λ l. IfOk result (list.MadeOf (IsCountsOf Self.Item.eq) (list.collected l))) }
-    /// ensures failure { OverList Self.contract.steps self
-    ///     (λ l. (e : Self.Error) → result ≡ Err (Source e) → list.collected l ≡ Err e) }
+    ///     (λ l. ContentsOf (IsCountsOf Self.Item.eq) l result) }
     /// ```
     /// </details>
     #[cfg(feature = "std")]
@@ -2211,11 +2181,7 @@ pub trait FallibleItertools: FallibleIterator + Sized {
     /// ensures value { OverListWith (list.Acts (call_by_value F.FnMut) f) Self.contract.steps self
     ///     (λ h l. list.CollectedAs (IsCountsOf K.eq) (list.mapped h l) result) }
     /// ensures contents { OverListWith (list.Acts (call_by_value F.FnMut) f) Self.contract.steps self
-    ///     (λ h l. IfOk result (list.MadeOf (IsCountsOf K.eq)
-    ///     (list.collected (list.mapped h l)))) }
-    /// ensures failure { OverListWith (list.Acts (call_by_value F.FnMut) f) Self.contract.steps self
-    ///     (λ h l. (e : Self.Error) → result ≡ Err (Source e)
-    ///     → list.collected (list.mapped h l) ≡ Err e) }
+    ///     (λ h l. ContentsOf (IsCountsOf K.eq) (list.mapped h l) result) }
     /// ```
     /// </details>
     #[cfg(feature = "std")]
@@ -2256,9 +2222,7 @@ pub trait FallibleItertools: FallibleIterator + Sized {
     /// ensures value { OverList Self.contract.steps self
     ///     (λ l. list.CollectedAs (IsGroupMapOf K.eq) l result) }
     /// ensures contents { OverList Self.contract.steps self
-    ///     (λ l. IfOk result (list.MadeOf (IsGroupMapOf K.eq) (list.collected l))) }
-    /// ensures failure { OverList Self.contract.steps self
-    ///     (λ l. (e : Self.Error) → result ≡ Err (Source e) → list.collected l ≡ Err e) }
+    ///     (λ l. ContentsOf (IsGroupMapOf K.eq) l result) }
     /// ```
     /// </details>
     #[cfg(feature = "std")]
@@ -2350,10 +2314,7 @@ pub trait FallibleItertools: FallibleIterator + Sized {
     /// ensures value { OverListWith (list.Acts (call_by_reference F.FnMut) f) Self.contract.steps self
     ///     (λ h l. list.CollectedAs (IsGroupMapOf K.eq) (keyed h l) result) }
     /// ensures contents { OverListWith (list.Acts (call_by_reference F.FnMut) f) Self.contract.steps self
-    ///     (λ h l. IfOk result (list.MadeOf (IsGroupMapOf K.eq) (list.collected (keyed h l)))) }
-    /// ensures failure { OverListWith (list.Acts (call_by_reference F.FnMut) f) Self.contract.steps self
-    ///     (λ h l. (e : Self.Error) → result ≡ Err (Source e)
-    ///     → list.collected (keyed h l) ≡ Err e) }
+    ///     (λ h l. ContentsOf (IsGroupMapOf K.eq) (keyed h l) result) }
     /// ```
     /// </details>
     #[cfg(feature = "std")]
@@ -2406,13 +2367,8 @@ pub trait FallibleItertools: FallibleIterator + Sized {
     /// ensures contents { OverListWith (list.Acts (call_by_reference F.FnMut) key)
     ///     Self.contract.steps self (λ k l. (h : B → Self.Item → Result B Self.Error)
     ///     → list.ActsWith (fold.call_with G.FnMut) f h
-    ///     → IfOk result (list.MadeOf (IsKeyFoldOf K.eq h init)
-    ///     (list.collected (checked_folds K.eq h init [] (keyed k l))))) }
-    /// ensures failure { OverListWith (list.Acts (call_by_reference F.FnMut) key)
-    ///     Self.contract.steps self (λ k l. (h : B → Self.Item → Result B Self.Error)
-    ///     → list.ActsWith (fold.call_with G.FnMut) f h
-    ///     → (e : Self.Error) → result ≡ Err (Source e)
-    ///     → list.collected (checked_folds K.eq h init [] (keyed k l)) ≡ Err e) }
+    ///     → ContentsOf (IsKeyFoldOf K.eq h init)
+    ///     (checked_folds K.eq h init [] (keyed k l)) result) }
     /// ```
     /// </details>
     #[cfg(feature = "std")]
@@ -2472,11 +2428,7 @@ pub trait FallibleItertools: FallibleIterator + Sized {
     /// ensures value { OverListWith (list.Acts (call_by_value F.FnMut) f) Self.contract.steps self
     ///     (λ h l. list.CollectedAs (MadeOfEithers L.made R.made) (list.mapped h l) result) }
     /// ensures contents { OverListWith (list.Acts (call_by_value F.FnMut) f) Self.contract.steps self
-    ///     (λ h l. IfOk result (list.MadeOf (MadeOfEithers L.made R.made)
-    ///     (list.collected (list.mapped h l)))) }
-    /// ensures failure { OverListWith (list.Acts (call_by_value F.FnMut) f) Self.contract.steps self
-    ///     (λ h l. (e : Self.Error) → result ≡ Err (Source e)
-    ///     → list.collected (list.mapped h l) ≡ Err e) }
+    ///     (λ h l. ContentsOf (MadeOfEithers L.made R.made) (list.mapped h l) result) }
     /// ```
     /// </details>
     fn partition_map<L, R, F, A, B>(self, f: F) -> Result<(L, R), Self::Error>
@@ -2559,9 +2511,7 @@ pub trait FallibleItertools: FallibleIterator + Sized {
     /// ensures value { OverList Self.contract.steps self
     ///     (λ l. list.CollectedAs (IsSortedOf Self.Item.cmp) l result) }
     /// ensures contents { OverList Self.contract.steps self
-    ///     (λ l. IfOk result (list.MadeOf (IsSortedOf Self.Item.cmp) (list.collected l))) }
-    /// ensures failure { OverList Self.contract.steps self
-    ///     (λ l. (e : Self.Error) → result ≡ Err (Source e) → list.collected l ≡ Err e) }
+    ///     (λ l. ContentsOf (IsSortedOf Self.Item.cmp) l result) }
     /// ```
     /// </details>
     #[cfg(feature = "alloc")]
@@ -2696,9 +2646,7 @@ pub trait FallibleItertools: FallibleIterator + Sized {
     /// ensures value { OverList Self.contract.steps self
     ///     (λ l. list.CollectedAs (HasItemsInOrder Self.Item.cmp) l result) }
     /// ensures contents { OverList Self.contract.steps self
-    ///     (λ l. IfOk result (list.MadeOf (HasItemsInOrder Self.Item.cmp) (list.collected l))) }
-    /// ensures failure { OverList Self.contract.steps self
-    ///     (λ l. (e : Self.Error) → result ≡ Err (Source e) → list.collected l ≡ Err e) }
+    ///     (λ l. ContentsOf (HasItemsInOrder Self.Item.cmp) l result) }
     /// ```
     /// </details>
     #[cfg(feature = "alloc")]
@@ -2835,10 +2783,8 @@ pub trait FallibleItertools: FallibleIterator + Sized {
     ///     (JoinedAs Self.Item.output separator.now) ⊥ (λ _ _. ⊤) self result }
     /// ensures value { OverList Self.contract.steps self
     ///     (λ l. list.CollectedAs (JoinedAs Self.Item.output separator.now) l result) }
-    /// ensures contents { OverList Self.contract.steps self (λ l. IfOk result
-    ///     (list.MadeOf (JoinedAs Self.Item.output separator.now) (list.collected l))) }
-    /// ensures failure { OverList Self.contract.steps self
-    ///     (λ l. (e : Self.Error) → result ≡ Err (Source e) → list.collected l ≡ Err e) }
+    /// ensures contents { OverList Self.contract.steps self
+    ///     (λ l. ContentsOf (JoinedAs Self.Item.output separator.now) l result) }
     /// ```
     /// </details>
     #[cfg(feature = "alloc")]
@@ -2880,9 +2826,7 @@ pub trait FallibleItertools: FallibleIterator + Sized {
     /// ensures value { OverList Self.contract.steps self
     ///     (λ l. list.CollectedAs (IsSmallestOf Self.Item.cmp k) l result) }
     /// ensures contents { OverList Self.contract.steps self
-    ///     (λ l. IfOk result (list.MadeOf (IsSmallestOf Self.Item.cmp k) (list.collected l))) }
-    /// ensures failure { OverList Self.contract.steps self
-    ///     (λ l. (e : Self.Error) → result ≡ Err (Source e) → list.collected l ≡ Err e) }
+    ///     (λ l. ContentsOf (IsSmallestOf Self.Item.cmp k) l result) }
     /// ```
     /// </details>
     #[cfg(feature = "alloc")]
@@ -2923,9 +2867,7 @@ pub trait FallibleItertools: FallibleIterator + Sized {
     /// ensures value { OverList Self.contract.steps self
     ///     (λ l. list.CollectedAs (IsTailOf deque_items n) l result) }
     /// ensures contents { OverList Self.contract.steps self
-    ///     (λ l. IfOk result (list.MadeOf (IsTailOf deque_items n) (list.collected l))) }
-    /// ensures failure { OverList Self.contract.steps self
-    ///     (λ l. (e : Self.Error) → result ≡ Err (Source e) → list.collected l ≡ Err e) }
+    ///     (λ l. ContentsOf (IsTailOf deque_items n) l result) }
     /// ```
     /// </details>
     #[cfg(feature = "alloc")]

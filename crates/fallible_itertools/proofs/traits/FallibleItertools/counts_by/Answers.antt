@@ -17,3 +17,6 @@ returns-clause-collects g c = collects_of_view_where_view_is_known map_parts (ma
 
 pub returns-clause-value : goal.returns-clause-value
 returns-clause-value g c h l acts i = c.counts.ensures.value _ (c.map.ensures.lists h l acts i)
+
+pub returns-clause-contents : goal.returns-clause-contents
+returns-clause-contents g c h l acts i = c.counts.ensures.contents _ (c.map.ensures.lists h l acts i)

@@ -3,9 +3,9 @@ use Rattle.std.specs.Prelude.{Ok, Err, []}
 use Rattle.fallible_iterator.specs.Folds.{call_with, takes_with}
 use Rattle.fallible_iterator.specs.Fault.TheVariants.{Source}
 use Rattle.fallible_iterator.proofs.Lemmas.Folding.{holds_at_each_turn_of_held}
-use Rattle.fallible_iterator.proofs.Lemmas.Lists.Drawn.{made_of_collected, collected_is_failure}
 use Rattle.fallible_itertools.specs.FoldByKey.{IsKeyFoldOf, checked_folds}
 use Rattle.fallible_itertools.specs.Keyed.{keyed_parts, keyed_contract, keyed}
+use Rattle.fallible_itertools.proofs.Lemmas.Contents.{contents_of_collected}
 use Rattle.fallible_itertools.proofs.Lemmas.FoldByKey.{hashed_map_of_none, callable_driving_by_key, folds_by_key_ended, folds_by_key_failed, folds_by_key_stopped, folded_by_key_of_keyed}
 use Rattle.fallible_itertools.proofs.traits.FallibleItertools.fold_by_key.Goals as goal
 
@@ -31,10 +31,10 @@ pub returns-clause-value : goal.returns-clause-value
 returns-clause-value g c k l acts i h folds = folded_by_key_of_keyed g.Self.FallibleIterator.contract g.F.FnMut k l acts i g.met.K.Eq.laws h c.args.init (call_with g.G.FnMut) c.args.f folds (Err (Source _)) (returns-clause-folded g c)
 
 pub returns-in-Ok-None-clause-contents : goal.returns-in-Ok-None-clause-contents
-returns-in-Ok-None-clause-contents g c k l acts i h folds = made_of_collected (IsKeyFoldOf g.K.PartialEq.eq h c.args.init) (checked_folds g.K.PartialEq.eq h c.args.init [] (keyed k l)) _ (returns-in-Ok-None-clause-value g c k l acts i h folds)
+returns-in-Ok-None-clause-contents g c k l acts i h folds = contents_of_collected (IsKeyFoldOf g.K.PartialEq.eq h c.args.init) (checked_folds g.K.PartialEq.eq h c.args.init [] (keyed k l)) (Ok _) (returns-in-Ok-None-clause-value g c k l acts i h folds)
 
-pub returns-in-Ok-Some-clause-failure : goal.returns-in-Ok-Some-clause-failure
-returns-in-Ok-Some-clause-failure g c k l acts i h folds e is = collected_is_failure (IsKeyFoldOf g.K.PartialEq.eq h c.args.init) (checked_folds g.K.PartialEq.eq h c.args.init [] (keyed k l)) (returns-in-Ok-Some-clause-value g c k l acts i h folds) is
+pub returns-in-Ok-Some-clause-contents : goal.returns-in-Ok-Some-clause-contents
+returns-in-Ok-Some-clause-contents g c k l acts i h folds = contents_of_collected (IsKeyFoldOf g.K.PartialEq.eq h c.args.init) (checked_folds g.K.PartialEq.eq h c.args.init [] (keyed k l)) (Err _) (returns-in-Ok-Some-clause-value g c k l acts i h folds)
 
-pub returns-clause-failure : goal.returns-clause-failure
-returns-clause-failure g c k l acts i h folds e is = collected_is_failure (IsKeyFoldOf g.K.PartialEq.eq h c.args.init) (checked_folds g.K.PartialEq.eq h c.args.init [] (keyed k l)) (returns-clause-value g c k l acts i h folds) is
+pub returns-clause-contents : goal.returns-clause-contents
+returns-clause-contents g c k l acts i h folds = contents_of_collected (IsKeyFoldOf g.K.PartialEq.eq h c.args.init) (checked_folds g.K.PartialEq.eq h c.args.init [] (keyed k l)) (Err (Source _)) (returns-clause-value g c k l acts i h folds)

@@ -13,6 +13,3 @@ returns-clause-value g c h l acts i = c.into_group_map.ensures.value _ (lists_ke
 
 pub returns-clause-contents : goal.returns-clause-contents
 returns-clause-contents g c h l acts i = c.into_group_map.ensures.contents _ (lists_keyed g.Self.FallibleIterator.contract g.F.FnMut _ h l acts i)
-
-pub returns-clause-failure : goal.returns-clause-failure
-returns-clause-failure g c h l acts i e is = c.into_group_map.ensures.failure _ (lists_keyed g.Self.FallibleIterator.contract g.F.FnMut _ h l acts i) e is

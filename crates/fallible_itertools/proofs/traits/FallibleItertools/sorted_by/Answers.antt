@@ -1,7 +1,8 @@
 -- What `collect` returned, sorted by the closure.
 use Rattle.fallible_iterator.proofs.Lemmas.Lists.Drawn.{collected_is_failure}
 use Rattle.fallible_itertools.specs.Sorted.{HasItems, IsSortedByComparisons, IsSortedByTest}
-use Rattle.fallible_itertools.proofs.Lemmas.Sorted.{made_of_collected_where_ok, has_items_where_sorted_by_comparisons, sorted_of_collected, sorted_by_test_where_compares}
+use Rattle.fallible_itertools.proofs.Lemmas.Sorted.{has_items_where_sorted_by_comparisons, sorted_of_collected, sorted_by_test_where_compares}
+use Rattle.fallible_itertools.proofs.Lemmas.Contents.{made_of_collected_where_ok}
 use Rattle.fallible_itertools.proofs.traits.FallibleItertools.sorted_by.Goals as goal
 
 pub returns-clause-collects : goal.returns-clause-collects

@@ -1,7 +1,8 @@
 -- What `collect` returned, sorted by the keys.
 use Rattle.fallible_iterator.proofs.Lemmas.Lists.Drawn.{collected_is_failure}
 use Rattle.fallible_itertools.specs.Sorted.{HasItems, IsSortedByCalls, IsSortedByKeyOf}
-use Rattle.fallible_itertools.proofs.Lemmas.Sorted.{made_of_collected_where_ok, has_items_where_sorted_by_calls, sorted_of_collected, sorted_by_key_where_computes_key}
+use Rattle.fallible_itertools.proofs.Lemmas.Sorted.{has_items_where_sorted_by_calls, sorted_of_collected, sorted_by_key_where_computes_key}
+use Rattle.fallible_itertools.proofs.Lemmas.Contents.{made_of_collected_where_ok}
 use Rattle.fallible_itertools.proofs.traits.FallibleItertools.sorted_by_key.Goals as goal
 
 pub returns-clause-collects : goal.returns-clause-collects

@@ -1,7 +1,6 @@
 -- What `collect` returned, sorted in place.
-use Rattle.fallible_iterator.proofs.Lemmas.Lists.Drawn.{collected_is_failure}
 use Rattle.fallible_itertools.specs.SortedUnstable.{HasItemsInOrder}
-use Rattle.fallible_itertools.proofs.Lemmas.Sorted.{made_of_collected_where_ok}
+use Rattle.fallible_itertools.proofs.Lemmas.Contents.{contents_of_collected}
 use Rattle.fallible_itertools.proofs.Lemmas.SortedUnstable.{collected_where_sorted_in_place}
 use Rattle.fallible_itertools.proofs.traits.FallibleItertools.sorted_unstable.Goals as goal
 
@@ -12,7 +11,4 @@ pub returns-clause-value : goal.returns-clause-value
 returns-clause-value g c l i = collected_where_sorted_in_place (HasItemsInOrder g.Self.Item.Ord.cmp) (HasItemsInOrder g.Self.Item.Ord.cmp) (λ items v h. h) l _ _ c.items_in_order.ensures (c.collect.ensures.value l i)
 
 pub returns-clause-contents : goal.returns-clause-contents
-returns-clause-contents g c l i = made_of_collected_where_ok (HasItemsInOrder g.Self.Item.Ord.cmp) l _ (returns-clause-value g c l i)
-
-pub returns-clause-failure : goal.returns-clause-failure
-returns-clause-failure g c l i e is = collected_is_failure (HasItemsInOrder g.Self.Item.Ord.cmp) l (returns-clause-value g c l i) is
+returns-clause-contents g c l i = contents_of_collected (HasItemsInOrder g.Self.Item.Ord.cmp) l _ (returns-clause-value g c l i)
