@@ -6,15 +6,14 @@ ghost use Rattle.fallible_itertools_adapters.specs.BeforeStop.{held_one};
 ghost use Rattle.fallible_itertools_adapters.specs.DedupBy.{same_call, same_takes};
 ghost use Rattle.fallible_itertools_adapters.specs.DedupByWithCount.{dedup_by_with_count_contract, dedup_by_with_count_made, dedup_by_with_count_parts};
 ghost use Rattle.fallible_itertools_adapters.specs.Laws.RunCounts.{is_stage_count, lawful_dedup_by_with_count};
-ghost use Rattle.fallible_itertools_adapters.specs.Plan.{plan_item, plan_stop, plan_takes};
-ghost use Rattle.fallible_itertools_adapters.specs.RunCounts.{count_plan, count_stops};
+ghost use Rattle.fallible_itertools_adapters.specs.Plan.{Makes, plan_item, plan_stop, plan_takes};
+ghost use Rattle.fallible_itertools_adapters.specs.RunCounts.{count_plan, count_stops, counted_by};
 ghost use Rattle.fallible_itertools_adapters.specs.Staging.{stop_comes};
 
 use crate::staging::{
     AnswerAndDue, Made, Stage, Stop, drive_stage, let_go, next_until, one, stopped, with_held,
 };
 use fallible_iterator::{FallibleIterator, Turn};
-use std::mem::replace;
 
 /// The first of adjacent items that the closure finds the same beside their number. It is buffered until an item that differs comes, or a stop: `Ok(None)` or a failure, which the next call returns. The closure's failure is a stop.
 #[derive(Clone, Debug, Drop)]
@@ -102,22 +101,17 @@ impl<X: Drop, E, F: FnMut(&X, &X) -> Result<bool, E>> Stage<(Option<(usize, X)>,
         requires { plan_takes (same_takes F.FnMut) (count_plan {E = E}) p.old item }
         ensures { plan_item (same_call F.FnMut) count_plan count_stops p.old item result p.new }
     {
-        match &mut p.0 {
+        match p.0.take() {
             None => {
                 p.0 = Some((1, item));
                 None
             }
-            Some((count, first)) => match (p.1)(first, &item) {
-                Ok(true) => {
-                    *count = count.saturating_add(1);
-                    None
-                }
-                Ok(false) => match replace(&mut p.0, Some((1, item))) {
-                    Some(run) => one(Ok(Some(run))),
-                    None => None,
-                },
-                Err(e) => let_go(p.0.take(), Some(e)),
-            },
+            Some((count, first)) => {
+                let same = (p.1)(&first, &item);
+                let (kept, made) = by_same(count, first, item, same);
+                p.0 = kept;
+                made
+            }
         }
     }
 
@@ -138,4 +132,21 @@ impl<X: Drop, E, F: FnMut(&X, &X) -> Result<bool, E>> Stage<(Option<(usize, X)>,
     }
 
     ghost is_stage = { λ _. is_stage_count (same_call F.FnMut) };
+}
+
+// What is buffered of the two items then, and what is made.
+#[inline(always)]
+fn by_same<X: Drop, E>(
+    count: usize,
+    first: X,
+    item: X,
+    same: Result<bool, E>,
+) -> (Option<(usize, X)>, Made<(usize, X), Stop<E>, E>)
+    ensures { Makes (counted_by (count, first) item same) result.1 result.0 }
+{
+    match same {
+        Ok(true) => (Some((count.saturating_add(1), first)), None),
+        Ok(false) => (Some((1, item)), one(Ok(Some((count, first))))),
+        Err(e) => (None, let_go(Some((count, first)), Some(e))),
+    }
 }

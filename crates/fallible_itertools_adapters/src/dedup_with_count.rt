@@ -11,10 +11,10 @@ ghost use Rattle.fallible_itertools_adapters.specs.Staged.{calls_function};
 ghost use Rattle.fallible_itertools_adapters.specs.Staging.{stop_comes};
 
 use crate::staging::{
-    AnswerAndDue, Made, Stage, Stop, drive_stage, let_go, next_until, one, stopped, with_held,
+    AnswerAndDue, Made, Stage, Stop, drawn_until, drive_stage, let_go, one, put_due, stopped,
+    with_held,
 };
 use fallible_iterator::{FallibleIterator, Turn};
-use std::mem::replace;
 
 /// The first of adjacent equal items beside their number. It is buffered until an item that differs comes, or a stop: `Ok(None)` or a failure, which the next call returns.
 #[derive(Clone, Debug, Drop)]
@@ -50,7 +50,17 @@ where
 
     /// Returns the stop that is due, without a draw. Otherwise it draws until an item differs from the buffered one, or a stop comes.
     fn next(&mut self) -> Result<Option<(usize, I::Item)>, I::Error> {
-        next_until(&mut self.it, &mut self.stage, &EqualCount)
+        match self.stage.1.take() {
+            Some(stop) => stopped(stop),
+            None => {
+                // in a local, so that a compiler keeps it in registers
+                let mut held = (self.stage.0.0.take(), ());
+                let (answer, due) = drawn_until(&mut self.it, &mut held, &EqualCount);
+                self.stage.0.0 = held.0;
+                put_due(&mut self.stage.1, due);
+                answer
+            }
+        }
     }
 
     fn size_hint(&self) -> (usize, Option<usize>) {
@@ -100,16 +110,18 @@ impl<X: PartialEq + Drop, E> Stage<(Option<(usize, X)>, ()), X, E> for EqualCoun
         ensures { plan_item (calls_function (are_equal X.eq)) count_plan count_stops p.old item result
             p.new }
     {
-        if let Some((count, first)) = &mut p.0 {
-            if *first == item {
-                *count = count.saturating_add(1);
-                return None;
+        let (kept, made) = match p.0.take() {
+            None => ((1, item), None),
+            Some((count, first)) => {
+                if first == item {
+                    ((count.saturating_add(1), first), None)
+                } else {
+                    ((1, item), one(Ok(Some((count, first)))))
+                }
             }
-        }
-        match replace(&mut p.0, Some((1, item))) {
-            Some(run) => one(Ok(Some(run))),
-            None => None,
-        }
+        };
+        p.0 = Some(kept);
+        made
     }
 
     #[inline(always)]

@@ -293,6 +293,11 @@ where
             Some(made) => return made,
             None => left = left.one_less(),
         }
+        // two draws a turn: a compiler would search a loop of one for its end many items at a time, which doesn't pay for short runs
+        match made_of(it.draw(), held, adapter) {
+            Some(made) => return made,
+            None => left = left.one_less(),
+        }
     }
 }
 

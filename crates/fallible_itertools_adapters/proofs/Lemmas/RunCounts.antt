@@ -8,7 +8,7 @@ use Rattle.fallible_iterator.specs.Lists.{ActsWith, Lists}
 use Rattle.fallible_iterator.specs.Picking.{call_at_two}
 use Rattle.fallible_iterator.specs.Traces.{Answered}
 use Rattle.fallible_iterator.proofs.Lemmas.Lists.Passing.{lists_seen}
-use Rattle.fallible_itertools_adapters.specs.BeforeStop.{HintsWhereHeld, before_stop, held_hints, held_one}
+use Rattle.fallible_itertools_adapters.specs.BeforeStop.{HintsWhereHeld, held_hints, held_one}
 use Rattle.fallible_itertools_adapters.specs.DedupBy.{same_call}
 use Rattle.fallible_itertools_adapters.specs.DedupByWithCount.{dedup_by_with_count_contract, dedup_by_with_count_parts}
 use Rattle.fallible_itertools_adapters.specs.DedupWithCount.{are_equal, dedup_with_count_contract, dedup_with_count_parts}
@@ -16,15 +16,11 @@ use Rattle.fallible_itertools_adapters.specs.Laws.RunCounts.{count_buffers}
 use Rattle.fallible_itertools_adapters.specs.Plan.{bounded, plan_hint, plan_meets}
 use Rattle.fallible_itertools_adapters.specs.RunCounts.{count_plan, count_stops, counted_by, deduped_by_with_count, deduped_with_count, first_once_more, one_more}
 use Rattle.fallible_itertools_adapters.specs.Staged.{as_function, calls_function, made_first, plan_does, staged}
-use Rattle.fallible_itertools_adapters.specs.Staging.{Made, stage_contract, stop_comes}
+use Rattle.fallible_itertools_adapters.specs.Staging.{stage_contract, stop_comes}
 use Rattle.fallible_itertools_adapters.proofs.Lemmas.BeforeStop.{end_before_stop, hints_where_one_held, parted_by_failure}
 use Rattle.fallible_itertools_adapters.proofs.Lemmas.Staged.{gives_plan}
 use Rattle.fallible_itertools_adapters.specs.declared.dedup_by_with_count.DedupByWithCount.{DedupByWithCount}
 use Rattle.fallible_itertools_adapters.specs.declared.dedup_with_count.DedupWithCount.{DedupWithCount}
-
--- what comes where the closure failed, if p was held
-pub failed_where_held : {A E : Type 0} (p : ℕ × A) (e : E) (made : Made (ℕ × A) (Option E) E) (held : Option (ℕ × A)) → made ≡ before_stop held (Some e) → held ≡ Some p → made ≡ before_stop (Some p) (Some e)
-failed_where_held p e made held is same = is ∙ ap (λ o. before_stop o (Some e)) same
 
 -- ---- the list
 

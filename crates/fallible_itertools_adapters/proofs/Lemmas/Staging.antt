@@ -272,5 +272,8 @@ module _ {S P X D B L E : Type 0} {m : Contract S X D} (l : Lawful m) (comes : L
   one_fewer_where_none_made most held is {p = p} {q = q} (Ok None) c step called n b = absurd ((is p (Ok None) None q called).2 tt)
   one_fewer_where_none_made most held is {p = p} {q = q} (Err e) c step called n b = absurd ((is p (Err e) None q called).2 tt)
 
+  pub takes_at_draw : (takes : P → X → Type 0) {s t : S} {p : P} (a : Answered X D) → m.can_next s → m.steps s a t → TakesAll m meets takes s p → IfItem (takes p) a
+  takes_at_draw takes {s = s} {t = t} {p = p} a c step callable = callable.at p a reaches_reflexive (may_meet_of_answer m s t a (l.kept_by_draw s a t c step).answer)
+
   pub takes_all_after_draw : (takes : P → X → Type 0) {s t : S} {p q : P} (a : Answered X D) (made : Made B L E) → m.can_next s → m.steps s a t → meets p a made q → TakesAll m meets takes s p → TakesAll m meets takes t q
   takes_all_after_draw takes {s = s} {t = t} {p = p} {q = q} a made c step called callable = let g = l.kept_by_draw s a t c step in is_callable_after {pre = λ h b. IfItem (takes h) b} (may_meet_before_draws m s t (kept_by_draws_of_one_draw g)) (reaches_by_call_first a made (may_meet_of_answer m s t a g.answer) called reaches_reflexive) callable

@@ -4,7 +4,6 @@ use crate::base::Turn;
 use crate::fallible_itertools_adapters::staging::{
     AnswerAndDue, Made, Stage, Stop, drive_stage, let_go, next_until, one, stopped, with_held,
 };
-use core::mem::replace;
 use fallible_iterator::FallibleIterator;
 
 /// The first of adjacent items that the closure finds the same beside their number. It is buffered until an item that differs comes, or a stop: `Ok(None)` or a failure, which the next call returns. The closure's failure is a stop.
@@ -73,22 +72,17 @@ impl<X, E, F: FnMut(&X, &X) -> Result<bool, E>> Stage<(Option<(usize, X)>, F), X
 
     #[inline(always)]
     fn on_item(&self, p: &mut (Option<(usize, X)>, F), item: X) -> Made<(usize, X), Stop<E>, E> {
-        match &mut p.0 {
+        match p.0.take() {
             None => {
                 p.0 = Some((1, item));
                 None
             }
-            Some((count, first)) => match (p.1)(first, &item) {
-                Ok(true) => {
-                    *count = count.saturating_add(1);
-                    None
-                }
-                Ok(false) => match replace(&mut p.0, Some((1, item))) {
-                    Some(run) => one(Ok(Some(run))),
-                    None => None,
-                },
-                Err(e) => let_go(p.0.take(), Some(e)),
-            },
+            Some((count, first)) => {
+                let same = (p.1)(&first, &item);
+                let (kept, made) = by_same(count, first, item, same);
+                p.0 = kept;
+                made
+            }
         }
     }
 
@@ -104,5 +98,20 @@ impl<X, E, F: FnMut(&X, &X) -> Result<bool, E>> Stage<(Option<(usize, X)>, F), X
     #[inline(always)]
     fn answer_due(&self, due: Stop<E>) -> AnswerAndDue<(usize, X), Stop<E>, E> {
         (stopped(due), None)
+    }
+}
+
+// What is buffered of the two items then, and what is made.
+#[inline(always)]
+fn by_same<X, E>(
+    count: usize,
+    first: X,
+    item: X,
+    same: Result<bool, E>,
+) -> (Option<(usize, X)>, Made<(usize, X), Stop<E>, E>) {
+    match same {
+        Ok(true) => (Some((count.saturating_add(1), first)), None),
+        Ok(false) => (Some((1, item)), one(Ok(Some((count, first))))),
+        Err(e) => (None, let_go(Some((count, first)), Some(e))),
     }
 }

@@ -345,6 +345,11 @@ pub fn drawn_until<I: FallibleIterator, P, G: Stage<P, I::Item, I::Error>>(
             Some(made) => return made,
             None => {}
         }
+        // two draws a turn: a compiler would search a loop of one for its end many items at a time, which doesn't pay for short runs
+        match made_of(it.next(), held, adapter) {
+            Some(made) => return made,
+            None => {}
+        }
     }
 }
 
