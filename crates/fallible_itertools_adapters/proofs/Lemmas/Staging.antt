@@ -103,11 +103,11 @@ module _ {S P X D B L E C R : Type 0} (comes : L → Option (Answered B E)) (mee
   Turns = StageTurns comes meets turns
 
   -- what turns on items of the source leave
-  pub record Onward (Q : C → B → Type 0) (s : S) (p : C × P) (t : S) (q : C × P) : Type 0 where
+  pub record FoldedOn (Q : C → B → Type 0) (s : S) (p : C × P) (t : S) (q : C × P) : Type 0 where
     pub holds : HoldsAtEachTurn Steps (goes_on turns) Q (s, (p.1, None)) p.0 → HoldsAtEachTurn Steps (goes_on turns) Q (t, (q.1, None)) q.0
     pub driven : (why : Answered R E) (u : State) (z : C) → Driven Steps turns (t, (q.1, None)) q.0 why u z → Driven Steps turns (s, (p.1, None)) p.0 why u z
 
-  onward_of_yields_and_folds : (Q : C → B → Type 0) (items : List X) (s t : S) (p q : C × P) → Yields steps s items t → FoldsTo (goes_on Turns) p items q → Onward Q s p t q
+  onward_of_yields_and_folds : (Q : C → B → Type 0) (items : List X) (s t : S) (p q : C × P) → Yields steps s items t → FoldsTo (goes_on Turns) p items q → FoldedOn Q s p t q
   onward_of_yields_and_folds Q [] s t p q ran went = rw (sym ran, sym went) (record { holds = λ h. h; driven = λ why u z h. h })
   onward_of_yields_and_folds Q (x ∷ items) s t p q ran went = let k = went.0 in let met = went.1 in let rest = onward_of_yields_and_folds Q items ran.0 t k q ran.2 went.2 in record {
     holds = λ h. rest.holds (holds_after_made Q s ran.0 p.1 k.1 (item x) met.0 p.0 k.0 ran.1 met.1 met.2 h);
@@ -126,7 +126,7 @@ module _ {S P X D B L E C R : Type 0} (comes : L → Option (Answered B E)) (mee
     pub ran : Yields steps s items before
     pub went : FoldsTo (goes_on Turns) p items k
     pub step : steps before a t
-    pub on : Onward Q s p before k
+    pub on : FoldedOn Q s p before k
 
   -- what the adapter makes of that answer stops the fold
   driven_where_met_breaks : (Q : C → B → Type 0) (s t : S) (p k : C × P) (a : Answered X D) (told : Answered R E × Option L) (q : C × P) → UpTo Q s p a t k → Met comes meets turns k a (Break told) q → Driven Steps turns (s, (p.1, None)) p.0 told.0 (t, (q.1, told.1)) q.0

@@ -69,9 +69,9 @@ module _ {S P X Y B L E : Type 0} (steps : S → Answered X E → S → Type 0) 
     gives_up_to_due_first None t q rest g = g (λ e. e)
     gives_up_to_due_first (Some later) t q rest g = λ r u w. first_before (due_comes (listed later)) r u rest (subst (λ (z : Answered B E). IsAnswerMade made (due_comes (listed later)) z) (sym w.0) (due_made later)) (λ on. subst (λ (s : S). GivesUpTo (s, u.1) rest) (sym w.1) (subst (λ (k : P × Option L). GivesUpTo (t, k) rest) (sym (w.2 ∙ ap (λ (d : Option L). (q, d)) (none_left later (comes later) (due_comes (listed later)) (due_made later) on))) (g on)))
 
-    first_made : (m : Made Y L E) (r : Answered B E) (due : Option L) (t : S) (q : P) (rest : List (Result Y E)) → IsMadeAs made m (Some (r, due)) → ((EndMade listed m → ⊥) → GivesUpTo (t, (q, None)) rest) → IsFirst (made_first listed m rest) r (t, (q, due))
-    first_made None r due t q rest w g = absurd w
-    first_made (Some (a, later)) r due t q rest w g = first_before a r (t, (q, due)) (due_first listed later rest) w.0 (λ on. subst (λ (d : Option L). GivesUpTo (t, (q, d)) (due_first listed later rest)) (sym w.1) (gives_up_to_due_first later t q rest (λ undue. g (λ over. elim over [ inl e ↦ on e | inr e ↦ undue e ]))))
+    first_of_made : (m : Made Y L E) (r : Answered B E) (due : Option L) (t : S) (q : P) (rest : List (Result Y E)) → IsMadeAs made m (Some (r, due)) → ((EndMade listed m → ⊥) → GivesUpTo (t, (q, None)) rest) → IsFirst (made_first listed m rest) r (t, (q, due))
+    first_of_made None r due t q rest w g = absurd w
+    first_of_made (Some (a, later)) r due t q rest w g = first_before a r (t, (q, due)) (due_first listed later rest) w.0 (λ on. subst (λ (d : Option L). GivesUpTo (t, (q, d)) (due_first listed later rest)) (sym w.1) (gives_up_to_due_first later t q rest (λ undue. g (λ over. elim over [ inl e ↦ on e | inr e ↦ undue e ]))))
 
     first_of_rest_where_none_made : (m : Made Y L E) (rest : List (Result Y E)) (r : Answered B E) (t : State) → IsMadeAs made m None → IsFirst rest r t → IsFirst (made_first listed m rest) r t
     first_of_rest_where_none_made None rest r t w f = f
@@ -86,13 +86,13 @@ module _ {S P X Y B L E : Type 0} (steps : S → Answered X E → S → Type 0) 
     made_at_end_is_not_none (Some (a, due)) e w = w
 
     first_of_staged_at_end : (s t : S) (p : P) (a : Q) (r : Answered B E) (q : P × Option L) → At p a → AlwaysGives steps s [] → DrawsUpTo comes meets steps s p r t q → IsFirst (staged listed does a []) r (t, q)
-    first_of_staged_at_end s t p a r _ at i (yields {q = q} {due = due} x step called) = let k = ends p q a (Some (r, due)) at (rw (i x t step) at called) in first_made (does a end).0 r due t q [] k.1 (λ on. absurd (on k.0))
+    first_of_staged_at_end s t p a r _ at i (yields {q = q} {due = due} x step called) = let k = ends p q a (Some (r, due)) at (rw (i x t step) at called) in first_of_made (does a end).0 r due t q [] k.1 (λ on. absurd (on k.0))
     first_of_staged_at_end s t p a r q at i (passes_over {u = u} {h = h} x step called rest) = let k = ends p h a None at (rw (i x u step) at called) in absurd (made_at_end_is_not_none (does a end).0 k.0 k.1)
 
     first_of_staged_at_item : (y : Result X E) (l : List (Result X E)) (s t : S) (p : P) (a : Q) (r : Answered B E) (q : P × Option L) → At p a → AlwaysGives steps s (y ∷ l) → ((u : S) (h : P) → At h (does a (result_answer y)).1 → AlwaysGives steps u l → GivesUpTo (u, (h, None)) (staged listed does (does a (result_answer y)).1 l)) → DrawsUpTo comes meets steps s p r t q → IsFirst (staged listed does a (y ∷ l)) r (t, q)
     first_of_staged_at_item y l s t p a r _ at i then (yields {q = q} {due = due} x step called) = let k = i x t step in elim (acts p q a y (Some (r, due)) at (rw k.0 at called)) [
       | inl w ↦ first_refused (staged listed does a (y ∷ l)) r (t, (q, due)) (w t) (never_nil p q a y l r due t at (rw k.0 at called) (w t))
-      | inr w ↦ first_made (does a (result_answer y)).0 r due t q _ w.1 (λ on. then t q w.0 k.1)
+      | inr w ↦ first_of_made (does a (result_answer y)).0 r due t q _ w.1 (λ on. then t q w.0 k.1)
     ]
     first_of_staged_at_item y l s t p a r q at i then (passes_over {u = u} {h = h} x step called rest) = let k = i x u step in elim (acts p h a y None at (rw k.0 at called)) [
       | inl w ↦ absurd w

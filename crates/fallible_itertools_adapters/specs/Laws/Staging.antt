@@ -173,5 +173,5 @@ module _ {S P X D B L E : Type 0} (m : Contract S X D) (meets : P → Answered X
   takes_item_where_may_meet p (Ok None) may t = tt
   takes_item_where_may_meet p (Err e) may t = tt
 
-  pub takes_where_reached : (p : P) → T p → TakesAll m meets takes s p
-  takes_where_reached p t = record { at = λ q a reached may. takes_item_where_may_meet q a may (kept_where_reached T keeps reached t) }
+  pub takes_all_where_reached : (p : P) → T p → TakesAll m meets takes s p
+  takes_all_where_reached p t = record { at = λ q a reached may. takes_item_where_may_meet q a may (kept_where_reached T keeps reached t) }
