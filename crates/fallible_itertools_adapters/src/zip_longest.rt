@@ -225,7 +225,10 @@ where
     #[inline(always)]
     fn next_of_both(
         &mut self,
-    ) -> (Result<Option<EitherOrBoth<T::Item, U::Item>>, T::Error>, bool) {
+    ) -> (
+        Result<Option<EitherOrBoth<T::Item, U::Item>>, T::Error>,
+        bool,
+    ) {
         match self.left.give() {
             Ok(Some(x)) => match self.right.next() {
                 Ok(Some(y)) => (Ok(Some(EitherOrBoth::Both(x, y))), false),
