@@ -70,6 +70,13 @@ class Way:
                 self.add("its own `next`" if receiver == "self" else DRAWS[name], side or field, looped)
             elif name in STD and through:
                 self.add(STD[name], "")
+            elif receiver == "self" and name == "next_of_both":
+                # `next`, with a flag: of a `next` its draws count, of a fold it is one.
+                own = [f for f in code.functions(self.path) if f.name == name and f.owner.endswith(function.owner.split(" for ")[-1])]
+                if function.name == "drive":
+                    self.add("its own `next`", "")
+                elif own:
+                    self.walk(own[0], through, side, (*seen, name))
             elif receiver != "self" and name not in seen:
                 helper = helper_of(name, self.path, self.found)
                 lent = [part for part in (field, *LENT.findall(given_at(function, called.end() - 1))) if part in SIDES]

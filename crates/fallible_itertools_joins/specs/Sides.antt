@@ -11,7 +11,10 @@ use Rattle.fallible_iterator.specs.Contract.{Contract, lenders_of_both, parts_as
 use Rattle.fallible_iterator.specs.Cutting.Fuse.{fuse_contract, fuse_ended, fuse_parts, fuse_source}
 use Rattle.fallible_iterator.specs.Held.{held_count}
 use Rattle.fallible_iterator.specs.Hints.{hint_sum}
+use Rattle.fallible_iterator.specs.Folds.{DriveExit}
 use Rattle.fallible_iterator.specs.Fuse.{Fuse}
+use Rattle.std.specs.declared.ops.ControlFlow.{ControlFlow}
+use Rattle.std.specs.declared.ops.ControlFlow.TheVariants.{Continue, Break}
 use Rattle.fallible_itertools_joins.specs.declared.sides.Holding.{Holding}
 use Rattle.fallible_itertools_joins.specs.declared.zip_longest.EitherOrBoth.{EitherOrBoth}
 use Rattle.fallible_itertools_joins.specs.declared.zip_longest.EitherOrBoth.TheVariants.{Both, Left, Right}
@@ -349,3 +352,10 @@ join_by call takes order makes gives = record {
   gives = gives;
   refuses = λ P Q f e. MayAnswer (call_on_two call) (λ z. P z.0 × Q z.1) f (λ z v. v ≡ Err e);
 }
+
+-- ---- a fold
+
+-- What one turn of a fold makes of an answer: the fold goes on after an item on which the turn does, and returns otherwise.
+abbrev pub TurnedOn : {A E C R : Type 0} → (C → A → ControlFlow R (Unit {0}) → C → Type 0) → C → Answered A E → ControlFlow (Answered R E) (Unit {0}) → C → Type 0
+TurnedOn {A = A} turns c r (Continue u) d = (x : A) × (r ≡ item x) × turns c x (Continue tt) d
+TurnedOn turns c r (Break answer) d = DriveExit turns c r answer d

@@ -5,8 +5,10 @@ ghost use Rattle.fallible_iterator.specs.Laws.Contract.{lawful_parts};
 ghost use Rattle.fallible_itertools_joins.specs.Interleave.{TakesTurn, interleave_contract, interleave_made, interleave_parts};
 ghost use Rattle.fallible_itertools_joins.specs.Laws.Interleave.{lawful_interleave};
 
+use crate::sides::{DrawsBoth, turned};
 use fallible_iterator::extending::sum;
-use fallible_iterator::{FallibleIterator, Fuse};
+use fallible_iterator::{FallibleIterator, Fuse, Turn};
+use std::ops::ControlFlow;
 
 /// What two sources yield in turn, each fused, and the rest of the one that yields more. A failure takes its side's turn, as an item does.
 #[derive(Clone, Debug, Drop)]
@@ -41,6 +43,44 @@ impl<T: FallibleIterator, U: FallibleIterator<Item = T::Item, Error = T::Error>>
 
     /// Draws the side whose turn it is once. If that returned `Ok(None)`, it draws the other once. A side that returned `Ok(None)` isn't drawn again. Each fold draws so too.
     fn next(&mut self) -> Result<Option<T::Item>, T::Error> {
+        self.next_of_both().0
+    }
+
+    fn size_hint(&self) -> (usize, Option<usize>) {
+        sum(self.left.size_hint(), self.right.size_hint())
+    }
+
+    fn drive<C, R, K: Turn<C, T::Item, R>>(
+        &mut self,
+        state: &mut C,
+        turn: &K,
+    ) -> Result<Option<R>, T::Error> {
+        let mut left = (*self).number();
+        loop {
+            let (answer, alone) = self.next_of_both();
+            match turned(answer, state, turn) {
+                ControlFlow::Continue(()) => left = left.one_less(),
+                ControlFlow::Break(answer) => return answer,
+            }
+            if alone {
+                break;
+            }
+        }
+        loop {
+            match turned(self.next(), state, turn) {
+                ControlFlow::Continue(()) => left = left.one_less(),
+                ControlFlow::Break(answer) => return answer,
+            }
+        }
+    }
+
+    ghost lawful = { lawful_parts interleave_made (lawful_interleave T.lawful U.lawful) };
+}
+
+impl<T: FallibleIterator, U: FallibleIterator<Item = T::Item, Error = T::Error>> DrawsBoth
+    for Interleave<T, U> {
+    #[inline(always)]
+    fn next_of_both(&mut self) -> (Result<Option<T::Item>, T::Error>, bool) {
         if self.right_next {
             self.right_next = false;
             first_or_second(&mut self.right, &mut self.left)
@@ -49,29 +89,23 @@ impl<T: FallibleIterator, U: FallibleIterator<Item = T::Item, Error = T::Error>>
             first_or_second(&mut self.left, &mut self.right)
         }
     }
-
-    fn size_hint(&self) -> (usize, Option<usize>) {
-        sum(self.left.size_hint(), self.right.size_hint())
-    }
-
-    ghost lawful = { lawful_parts interleave_made (lawful_interleave T.lawful U.lawful) };
 }
 
-// What the first side yields, or at its end the second.
+// What the first side yields, or at its end the second; and whether that end was met.
 #[inline(always)]
 fn first_or_second<T: FallibleIterator, U: FallibleIterator<Item = T::Item, Error = T::Error>>(
     first: &mut T,
     second: &mut U,
-) -> Result<Option<T::Item>, T::Error>
+) -> (Result<Option<T::Item>, T::Error>, bool)
 where
     requires first { T.contract.can_next first.old }
     requires second { U.contract.can_next second.old }
     ensures { TakesTurn T.contract.steps U.contract.steps (first.old, second.old)
-        result (first.new, second.new) }
+        result.0 (first.new, second.new) }
 {
     match first.next() {
-        Ok(Some(x)) => Ok(Some(x)),
-        Ok(None) => second.next(),
-        Err(e) => Err(e),
+        Ok(Some(x)) => (Ok(Some(x)), false),
+        Ok(None) => (second.next(), true),
+        Err(e) => (Err(e), false),
     }
 }

@@ -5,11 +5,12 @@ ghost use Rattle.fallible_iterator.specs.Laws.Contract.{lawful_parts};
 ghost use Rattle.fallible_itertools_joins.specs.MergeJoinBy.{merge_join_by_contract, merge_join_by_made, merge_join_by_parts};
 ghost use Rattle.fallible_itertools_joins.specs.Laws.MergeJoinBy.{lawful_merge_join_by};
 
-use crate::sides::Holding;
+use crate::sides::{DrawsBoth, Holding, turned};
 use crate::zip_longest::{EitherOrBoth, greater};
 use fallible_iterator::extending::sum;
-use fallible_iterator::{FallibleIterator, Fuse};
+use fallible_iterator::{FallibleIterator, Fuse, Turn};
 use std::cmp::Ordering;
+use std::ops::ControlFlow;
 
 /// The items of two sources, each fused, in order. A closure compares an item of each: `Less` yields the left's alone, `Greater` the right's alone, and `Equal` both. A failure of a side is yielded, and loses nothing that is buffered. If the closure fails, its failure is yielded, and the two items are lost.
 #[derive(Clone, Debug, Drop)]
@@ -51,31 +52,7 @@ where
 
     /// Of each side it takes the buffered item, or draws once, and nothing once the side returned `Ok(None)`; the right only if the left didn't fail. It calls the closure on the two items, and buffers the one that isn't yielded. Each fold draws so too.
     fn next(&mut self) -> Result<Option<EitherOrBoth<T::Item, U::Item>>, T::Error> {
-        let from_left = self.left.give()?;
-        let from_right = match self.right.give() {
-            Ok(given) => given,
-            Err(e) => {
-                self.left.held = from_left;
-                return Err(e);
-            }
-        };
-        match (from_left, from_right) {
-            (Some(x), Some(y)) => match (self.f)(&x, &y) {
-                Ok(Ordering::Less) => {
-                    self.right.held = Some(y);
-                    Ok(Some(EitherOrBoth::Left(x)))
-                }
-                Ok(Ordering::Equal) => Ok(Some(EitherOrBoth::Both(x, y))),
-                Ok(Ordering::Greater) => {
-                    self.left.held = Some(x);
-                    Ok(Some(EitherOrBoth::Right(y)))
-                }
-                Err(e) => Err(e),
-            },
-            (Some(x), None) => Ok(Some(EitherOrBoth::Left(x))),
-            (None, Some(y)) => Ok(Some(EitherOrBoth::Right(y))),
-            (None, None) => Ok(None),
-        }
+        self.next_of_both().0
     }
 
     fn size_hint(&self) -> (usize, Option<usize>) {
@@ -84,6 +61,76 @@ where
         (greater(left, right).0, sum(left, right).1)
     }
 
+    fn drive<C, R, K: Turn<C, EitherOrBoth<T::Item, U::Item>, R>>(
+        &mut self,
+        state: &mut C,
+        turn: &K,
+    ) -> Result<Option<R>, T::Error> {
+        let mut left = (*self).number();
+        loop {
+            let (answer, alone) = self.next_of_both();
+            match turned(answer, state, turn) {
+                ControlFlow::Continue(()) => left = left.one_less(),
+                ControlFlow::Break(answer) => return answer,
+            }
+            if alone {
+                break;
+            }
+        }
+        loop {
+            match turned(self.next(), state, turn) {
+                ControlFlow::Continue(()) => left = left.one_less(),
+                ControlFlow::Break(answer) => return answer,
+            }
+        }
+    }
+
     ghost lawful = { lawful_parts merge_join_by_made
         (lawful_merge_join_by F.FnMut T.lawful U.lawful) };
+}
+
+impl<
+    T: FallibleIterator,
+    U: FallibleIterator<Error = T::Error>,
+    F: FnMut(&T::Item, &U::Item) -> Result<Ordering, T::Error>,
+> DrawsBoth for MergeJoinBy<T, U, F>
+where
+    T::Item: Drop,
+    U::Item: Drop,
+{
+    #[inline(always)]
+    fn next_of_both(
+        &mut self,
+    ) -> (
+        Result<Option<EitherOrBoth<T::Item, U::Item>>, T::Error>,
+        bool,
+    ) {
+        match self.left.give() {
+            Ok(Some(x)) => match self.right.give() {
+                Ok(Some(y)) => match (self.f)(&x, &y) {
+                    Ok(Ordering::Less) => {
+                        self.right.held = Some(y);
+                        (Ok(Some(EitherOrBoth::Left(x))), false)
+                    }
+                    Ok(Ordering::Equal) => (Ok(Some(EitherOrBoth::Both(x, y))), false),
+                    Ok(Ordering::Greater) => {
+                        self.left.held = Some(x);
+                        (Ok(Some(EitherOrBoth::Right(y))), false)
+                    }
+                    Err(e) => (Err(e), false),
+                },
+                Ok(None) => (Ok(Some(EitherOrBoth::Left(x))), true),
+                Err(e) => {
+                    self.left.held = Some(x);
+                    (Err(e), false)
+                }
+            },
+            Ok(None) => match self.right.give() {
+                Ok(Some(y)) => (Ok(Some(EitherOrBoth::Right(y))), true),
+                Ok(None) => (Ok(None), true),
+                Err(e) => (Err(e), true),
+            },
+            Err(e) => (Err(e), false),
+        }
+    }
 }

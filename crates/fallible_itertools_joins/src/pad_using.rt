@@ -6,9 +6,11 @@ ghost use Rattle.fallible_iterator.specs.OneToOne.Map.{map_outcome};
 ghost use Rattle.fallible_itertools_joins.specs.PadUsing.{NextIndex, beside_index_step, pad_call, pad_takes, pad_using_contract, pad_using_made, pad_using_parts};
 ghost use Rattle.fallible_itertools_joins.specs.Laws.PadUsing.{lawful_pad_using};
 
+use crate::sides::{DrawsBoth, turned};
 use crate::zip_longest::{EitherOrBoth, greater};
 use fallible_iterator::extending::{Outcome, Pass, passed};
-use fallible_iterator::{FallibleIterator, Fuse};
+use fallible_iterator::{FallibleIterator, Fuse, Turn};
+use std::ops::ControlFlow;
 
 /// The items of the source, and then what the closure returns for each index below n that no item has. The source is fused. If the closure fails, its failure stands in that item's place.
 #[derive(Clone, Debug, Drop)]
@@ -46,8 +48,7 @@ impl<I: FallibleIterator, F: FnMut(usize) -> Result<I::Item, I::Error>> Fallible
 
     /// Draws once until the source returned `Ok(None)`. From then on it draws nothing, and calls the closure once until n items were yielded. Each fold draws so too.
     fn next(&mut self) -> Result<Option<I::Item>, I::Error> {
-        let beside = beside_index(&mut self.it, &mut self.next, self.end);
-        passed(beside, &mut self.f, &PadPass)
+        self.next_of_both().0
     }
 
     fn size_hint(&self) -> (usize, Option<usize>) {
@@ -55,7 +56,41 @@ impl<I: FallibleIterator, F: FnMut(usize) -> Result<I::Item, I::Error>> Fallible
         greater(self.it.size_hint(), (missing, Some(missing)))
     }
 
+    fn drive<C, R, K: Turn<C, I::Item, R>>(
+        &mut self,
+        state: &mut C,
+        turn: &K,
+    ) -> Result<Option<R>, I::Error> {
+        let mut left = (*self).number();
+        loop {
+            let (answer, alone) = self.next_of_both();
+            match turned(answer, state, turn) {
+                ControlFlow::Continue(()) => left = left.one_less(),
+                ControlFlow::Break(answer) => return answer,
+            }
+            if alone {
+                break;
+            }
+        }
+        loop {
+            match turned(self.next(), state, turn) {
+                ControlFlow::Continue(()) => left = left.one_less(),
+                ControlFlow::Break(answer) => return answer,
+            }
+        }
+    }
+
     ghost lawful = { lawful_parts pad_using_made (lawful_pad_using F.FnMut I.lawful) };
+}
+
+impl<I: FallibleIterator, F: FnMut(usize) -> Result<I::Item, I::Error>> DrawsBoth
+    for PadUsing<I, F> {
+    #[inline(always)]
+    fn next_of_both(&mut self) -> (Result<Option<I::Item>, I::Error>, bool) {
+        let beside = beside_index(&mut self.it, &mut self.next, self.end);
+        let alone = matches!(beside, Ok(Some(EitherOrBoth::Right(_))));
+        (passed(beside, &mut self.f, &PadPass), alone)
+    }
 }
 
 // An item as it is, and what the closure returns for an index alone.

@@ -1,9 +1,10 @@
-// A side of what joins two sources, fuses each and buffers at most one item of each.
-ghost use Rattle.std.specs.Prelude.{◌≡◌, Option, Result, None};
-ghost use Rattle.fallible_itertools_joins.specs.Sides.{GivesHeldFirst, SideHints, holding_held, holding_parts, holding_source};
+// A side of what joins two sources, fuses each and buffers at most one item of each; and what a fold of both makes of an answer.
+ghost use Rattle.std.specs.Prelude.{◌≡◌, Option, Result, None, Some, Ok};
+ghost use Rattle.fallible_itertools_joins.specs.Sides.{GivesHeldFirst, SideHints, TurnedOn, holding_held, holding_parts, holding_source};
 
-use fallible_iterator::FallibleIterator;
 use fallible_iterator::extending::sum;
+use fallible_iterator::{FallibleIterator, Turn};
+use std::ops::ControlFlow;
 
 // A source, and its buffered item, if there is one.
 #[derive(Clone, Debug, Drop)]
@@ -48,5 +49,34 @@ where
             Some(_) => sum(hint, (1, Some(1))),
             None => hint,
         }
+    }
+}
+
+// What joins two sources. Its fold draws by one loop while both are drawn, and by another from then on, which a compiler simplifies.
+pub(crate) trait DrawsBoth: FallibleIterator {
+    // What `next` returns, and whether one side alone is drawn from then on. Only speed depends on that.
+    fn next_of_both(&mut self) -> (Result<Option<Self::Item>, Self::Error>, bool)
+        requires { Self.contract.can_next self.old }
+        ensures { Self.contract.steps self.old result.0 self.new };
+}
+
+// What one turn of a fold makes of an answer: the fold goes on after an item on which the turn does, and returns otherwise.
+#[inline(always)]
+pub(crate) fn turned<A, E, C, R, K: Turn<C, A, R>>(
+    answer: Result<Option<A>, E>,
+    state: &mut C,
+    turn: &K,
+) -> ControlFlow<Result<Option<R>, E>, ()>
+where
+    requires { (x : A) → answer ≡ Ok (Some x) → K.can_turn turn.now state.old x }
+    ensures { TurnedOn (K.turns turn.now) state.old answer result state.new }
+{
+    match answer {
+        Ok(Some(x)) => match turn.turn(state, x) {
+            ControlFlow::Continue(()) => ControlFlow::Continue(()),
+            ControlFlow::Break(stop) => ControlFlow::Break(Ok(Some(stop))),
+        },
+        Ok(None) => ControlFlow::Break(Ok(None)),
+        Err(e) => ControlFlow::Break(Err(e)),
     }
 }

@@ -4,8 +4,9 @@ ghost use Rattle.fallible_iterator.specs.Contract.{parts_as};
 ghost use Rattle.fallible_itertools_joins.specs.ZipLongest.{both_of, hint_greater, only_left, left_of, longest, only_right, right_of, zip_longest_contract, zip_longest_parts};
 ghost use Rattle.fallible_itertools_joins.specs.Laws.ZipLongest.{lawful_zip_longest_parts};
 
-use crate::sides::Holding;
-use fallible_iterator::{FallibleIterator, Fuse};
+use crate::sides::{DrawsBoth, Holding, turned};
+use fallible_iterator::{FallibleIterator, Fuse, Turn};
+use std::ops::ControlFlow;
 
 /// An item of each of two sources, or of one alone.
 #[derive(Clone, Debug, PartialEq, Eq, Drop)]
@@ -182,28 +183,69 @@ where
 
     /// Takes the left's buffered item, or draws the left once. Then, unless that failed, it draws the right once. A side that returned `Ok(None)` isn't drawn again. Each fold draws so too.
     fn next(&mut self) -> Result<Option<EitherOrBoth<T::Item, U::Item>>, T::Error> {
-        match self.left.give()? {
-            Some(x) => match self.right.next() {
-                Ok(Some(y)) => Ok(Some(EitherOrBoth::Both(x, y))),
-                Ok(None) => Ok(Some(EitherOrBoth::Left(x))),
-                Err(e) => {
-                    self.left.held = Some(x);
-                    Err(e)
-                }
-            },
-            None => match self.right.next() {
-                Ok(Some(y)) => Ok(Some(EitherOrBoth::Right(y))),
-                Ok(None) => Ok(None),
-                Err(e) => Err(e),
-            },
-        }
+        self.next_of_both().0
     }
 
     fn size_hint(&self) -> (usize, Option<usize>) {
         greater(self.left.hint(), self.right.size_hint())
     }
 
+    fn drive<C, R, K: Turn<C, EitherOrBoth<T::Item, U::Item>, R>>(
+        &mut self,
+        state: &mut C,
+        turn: &K,
+    ) -> Result<Option<R>, T::Error> {
+        let mut left = (*self).number();
+        loop {
+            let (answer, alone) = self.next_of_both();
+            match turned(answer, state, turn) {
+                ControlFlow::Continue(()) => left = left.one_less(),
+                ControlFlow::Break(answer) => return answer,
+            }
+            if alone {
+                break;
+            }
+        }
+        loop {
+            match turned(self.next(), state, turn) {
+                ControlFlow::Continue(()) => left = left.one_less(),
+                ControlFlow::Break(answer) => return answer,
+            }
+        }
+    }
+
     ghost lawful = { lawful_zip_longest_parts T.lawful U.lawful };
+}
+
+impl<T: FallibleIterator, U: FallibleIterator<Error = T::Error>> DrawsBoth for ZipLongest<T, U>
+where
+    T::Item: Drop,
+    U::Item: Drop,
+{
+    #[inline(always)]
+    fn next_of_both(
+        &mut self,
+    ) -> (
+        Result<Option<EitherOrBoth<T::Item, U::Item>>, T::Error>,
+        bool,
+    ) {
+        match self.left.give() {
+            Ok(Some(x)) => match self.right.next() {
+                Ok(Some(y)) => (Ok(Some(EitherOrBoth::Both(x, y))), false),
+                Ok(None) => (Ok(Some(EitherOrBoth::Left(x))), true),
+                Err(e) => {
+                    self.left.held = Some(x);
+                    (Err(e), false)
+                }
+            },
+            Ok(None) => match self.right.next() {
+                Ok(Some(y)) => (Ok(Some(EitherOrBoth::Right(y))), true),
+                Ok(None) => (Ok(None), true),
+                Err(e) => (Err(e), true),
+            },
+            Err(e) => (Err(e), false),
+        }
+    }
 }
 
 // The greater of two hints' bounds.

@@ -7,6 +7,11 @@ use Rattle.std.proofs.Common.{refl, sym, ap, subst, ◌∙◌, arith, inl, inr}
 use Rattle.fallible_iterator.specs.Traces.{Answered, Run, Yields, item, failure, end, is_end}
 use Rattle.fallible_iterator.specs.Closing.{closing_step}
 use Rattle.fallible_iterator.specs.Contract.{Contract, Lawful}
+use Rattle.fallible_iterator.specs.Folds.{CallableDriving, Driven}
+use Rattle.fallible_iterator.proofs.Lemmas.Folds.{driven_by_item_first, driven_end, driven_failure, driven_stop, holds_at_first_turn, holds_each_turn_after_item}
+use Rattle.fallible_iterator.proofs.Lemmas.Loops.{CountsDown}
+use Rattle.std.specs.declared.ops.ControlFlow.{ControlFlow}
+use Rattle.std.specs.declared.ops.ControlFlow.TheVariants.{Continue, Break}
 use Rattle.fallible_iterator.specs.Cutting.Fuse.{fuse_parts}
 use Rattle.fallible_iterator.specs.Held.{held_count}
 use Rattle.fallible_iterator.specs.Hints.{fitting_sum}
@@ -17,7 +22,7 @@ use Rattle.fallible_iterator.proofs.Lemmas.Hints.Drawn.{if_some_at_least_of_smal
 use Rattle.fallible_iterator.proofs.Lemmas.Hints.Joining.{if_some_fitting_sum_at_least_both}
 use Rattle.fallible_iterator.specs.Fuse.{Fuse}
 use Rattle.fallible_itertools_joins.specs.declared.zip_longest.EitherOrBoth.TheVariants.{Left, Right}
-use Rattle.fallible_itertools_joins.specs.Sides.{AsksOfTwo, Join, by_ordering, join_answer, join_rule, joined_of_two, left_first, right_first, taken_before, two_items, fused_steps, side_gives, side_hint, GivesHeldFirst, GivesIf, Rule, SidesPlace, left_failed, right_failed, both_gave, left_gave, right_gave, left_held_after, right_held_after, place_answer, place_decides}
+use Rattle.fallible_itertools_joins.specs.Sides.{AsksOfTwo, Join, TurnedOn, by_ordering, join_answer, join_rule, joined_of_two, left_first, right_first, taken_before, two_items, fused_steps, side_gives, side_hint, GivesHeldFirst, GivesIf, Rule, SidesPlace, left_failed, right_failed, both_gave, left_gave, right_gave, left_held_after, right_held_after, place_answer, place_decides}
 use Rattle.fallible_itertools_joins.specs.Laws.Sides.{IsLawfulRule, side_kept_and_of_item_where_given}
 use Rattle.fallible_itertools_joins.specs.Laws.SidesTraces.{SidesState, SidesStep}
 
@@ -438,3 +443,41 @@ module _ {A B C E F K : Type 0} (j : Join A B C E F K) where
   -- of both sides it consumes one item, where both are never taken
   pub gives_as_many_unless_both : ((k : K) → j.order k ≡ Equal → ⊥) → GivesAsMany (join_rule j) (λ i j. i + j)
   gives_as_many_unless_both never = record { item_given = λ f g x y v z i l d is. many_taken_at_most (λ i j. i + j) (λ x y k i l. one_taken_unless_equal x y i l (j.order k) (never k)) (λ i l. omega arith) (λ i l. omega arith) f g x y v z i l d is; end_given = ends_at_end_of_both; nothing = refl }
+
+-- ---- a fold of both sides
+
+module _ {S A E C R : Type 0} (m : Contract S A E) (turns : C → A → ControlFlow R (Unit {0}) → C → Type 0) (can : C → A → Type 0) (s0 : S) (c0 : C) where
+  -- The fold may go on from here, some bound is at most the one counted down, and what a fold from here does, the whole fold does.
+  pub record FoldsOn (s : S) (c : C) (left : ℕ) : Type 0 where
+    pub counts : CountsDown m s left
+    pub callable : CallableDriving m.steps turns can s c
+    pub whole : (r : Answered R E) (t : S) (d : C) → Driven m.steps turns s c r t d → Driven m.steps turns s0 c0 r t d
+
+  module _ {s : S} {c : C} {left : ℕ} (h : FoldsOn s c left) {t : S} {r : Answered A E} (step : m.steps s r t) where
+    pub turn_allowed : (x : A) → r ≡ item x → can c x
+    turn_allowed x is = holds_at_first_turn h.callable (subst (λ (a : Answered A E). m.steps s a t) is step)
+
+    driven_at_last : (r : Answered A E) (answer : Answered R E) (d : C) → m.steps s r t → TurnedOn turns c r (Break answer) d → Driven m.steps turns s c answer t d
+    driven_at_last (Ok None) answer d step w = rw (w.0, w.1) (driven_end step)
+    driven_at_last (Ok (Some x)) answer d step w = rw w.2 (driven_stop x step w.1)
+    driven_at_last (Err e) answer d step w = rw (w.0, w.1) (driven_failure step)
+
+    pub whole_where_turned_last : {answer : Answered R E} {d : C} → TurnedOn turns c r (Break answer) d → Driven m.steps turns s0 c0 answer t d
+    whole_where_turned_last {answer} {d} w = h.whole answer t d (driven_at_last r answer d step w)
+
+    pub some_left_where_turn_goes_on : Lawful m → {u : Unit {0}} {d : C} → TurnedOn turns c r (Continue u) d → 1 ≤ left
+    some_left_where_turn_goes_on l w =
+        let goes = l.kept_by_draw s (item w.0) t h.counts.0 (subst (λ (a : Answered A E). m.steps s a t) w.1 step) in
+        let fewer = goes.answer.1 h.counts.1.0 h.counts.1.1 in
+        omega (arith, fewer.2, h.counts.1.2)
+
+    pub folds_on_after_turn : Lawful m → {u : Unit {0}} {d : C} {n : ℕ} → n ≡ left - 1 → TurnedOn turns c r (Continue u) d → FoldsOn t d n
+    folds_on_after_turn l {u} {d} {n} is w =
+        let drawn = subst (λ (a : Answered A E). m.steps s a t) w.1 step in
+        let goes = l.kept_by_draw s (item w.0) t h.counts.0 drawn in
+        let fewer = goes.answer.1 h.counts.1.0 h.counts.1.1 in
+        record {
+          counts = (goes.can_next, (fewer.0, fewer.1, omega (arith, fewer.2, h.counts.1.2, is)));
+          callable = holds_each_turn_after_item h.callable drawn w.2;
+          whole = λ r u z rest. h.whole r u z (driven_by_item_first w.0 drawn w.2 rest);
+        }

@@ -1,6 +1,9 @@
 //! The adapter that yields the items of two sources in turn.
 
+use crate::base::Turn;
 use crate::base::sum;
+use crate::fallible_itertools_adapters::sides::{DrawsBoth, turned};
+use core::ops::ControlFlow;
 use fallible_iterator::{FallibleIterator, Fuse};
 
 /// What two sources yield in turn, each fused, and the rest of the one that yields more. A failure takes its side's turn, as an item does.
@@ -25,6 +28,33 @@ impl<T, U> Interleave<T, U> {
     }
 }
 
+// The fold by turns, by which `try_fold` goes.
+impl<T: FallibleIterator, U: FallibleIterator<Item = T::Item, Error = T::Error>> Interleave<T, U> {
+    #[inline(always)]
+    fn fold_by<C, R, K: Turn<C, T::Item, R>>(
+        &mut self,
+        state: &mut C,
+        turn: &K,
+    ) -> Result<Option<R>, T::Error> {
+        loop {
+            let (answer, alone) = self.next_of_both();
+            match turned(answer, state, turn) {
+                ControlFlow::Continue(()) => {}
+                ControlFlow::Break(answer) => return answer,
+            }
+            if alone {
+                break;
+            }
+        }
+        loop {
+            match turned(self.next(), state, turn) {
+                ControlFlow::Continue(()) => {}
+                ControlFlow::Break(answer) => return answer,
+            }
+        }
+    }
+}
+
 impl<T: FallibleIterator, U: FallibleIterator<Item = T::Item, Error = T::Error>> FallibleIterator
     for Interleave<T, U>
 {
@@ -34,6 +64,21 @@ impl<T: FallibleIterator, U: FallibleIterator<Item = T::Item, Error = T::Error>>
 
     /// Draws the side whose turn it is once. If that returned `Ok(None)`, it draws the other once. A side that returned `Ok(None)` isn't drawn again. Each fold draws so too.
     fn next(&mut self) -> Result<Option<T::Item>, T::Error> {
+        self.next_of_both().0
+    }
+
+    fn size_hint(&self) -> (usize, Option<usize>) {
+        sum(self.left.size_hint(), self.right.size_hint())
+    }
+
+    crate::base::by_drive!(drive);
+}
+
+impl<T: FallibleIterator, U: FallibleIterator<Item = T::Item, Error = T::Error>> DrawsBoth
+    for Interleave<T, U>
+{
+    #[inline(always)]
+    fn next_of_both(&mut self) -> (Result<Option<T::Item>, T::Error>, bool) {
         if self.right_next {
             self.right_next = false;
             first_or_second(&mut self.right, &mut self.left)
@@ -42,21 +87,17 @@ impl<T: FallibleIterator, U: FallibleIterator<Item = T::Item, Error = T::Error>>
             first_or_second(&mut self.left, &mut self.right)
         }
     }
-
-    fn size_hint(&self) -> (usize, Option<usize>) {
-        sum(self.left.size_hint(), self.right.size_hint())
-    }
 }
 
-// What the first side yields, or at its end the second.
+// What the first side yields, or at its end the second; and whether that end was met.
 #[inline(always)]
 fn first_or_second<T: FallibleIterator, U: FallibleIterator<Item = T::Item, Error = T::Error>>(
     first: &mut T,
     second: &mut U,
-) -> Result<Option<T::Item>, T::Error> {
+) -> (Result<Option<T::Item>, T::Error>, bool) {
     match first.next() {
-        Ok(Some(x)) => Ok(Some(x)),
-        Ok(None) => second.next(),
-        Err(e) => Err(e),
+        Ok(Some(x)) => (Ok(Some(x)), false),
+        Ok(None) => (second.next(), true),
+        Err(e) => (Err(e), false),
     }
 }

@@ -1,9 +1,16 @@
 //! The adapter that joins the items of two sources in order, as a closure compares them.
 
+use crate::base::Turn;
 use crate::base::sum;
+<<<<<<< HEAD:rust/fallible-itertools/src/fallible_itertools_joins/merge_join_by.rs
 use crate::fallible_itertools_joins::sides::Holding;
 use crate::fallible_itertools_joins::zip_longest::{EitherOrBoth, greater};
+=======
+use crate::fallible_itertools_adapters::sides::{DrawsBoth, Holding, turned};
+use crate::fallible_itertools_adapters::zip_longest::{EitherOrBoth, greater};
+>>>>>>> joins:rust/fallible-itertools/src/fallible_itertools_adapters/merge_join_by.rs
 use core::cmp::Ordering;
+use core::ops::ControlFlow;
 use fallible_iterator::{FallibleIterator, Fuse};
 
 /// The items of two sources, each fused, in order. A closure compares an item of each: `Less` yields the left's alone, `Greater` the right's alone, and `Equal` both. A failure of a side is yielded, and loses nothing that is buffered. If the closure fails, its failure is yielded, and the two items are lost.
@@ -27,6 +34,38 @@ impl<T: FallibleIterator, U: FallibleIterator<Error = T::Error>, F> MergeJoinBy<
     }
 }
 
+// The fold by turns, by which `try_fold` goes.
+impl<
+    T: FallibleIterator,
+    U: FallibleIterator<Error = T::Error>,
+    F: FnMut(&T::Item, &U::Item) -> Result<Ordering, T::Error>,
+> MergeJoinBy<T, U, F>
+{
+    #[inline(always)]
+    fn fold_by<C, R, K: Turn<C, EitherOrBoth<T::Item, U::Item>, R>>(
+        &mut self,
+        state: &mut C,
+        turn: &K,
+    ) -> Result<Option<R>, T::Error> {
+        loop {
+            let (answer, alone) = self.next_of_both();
+            match turned(answer, state, turn) {
+                ControlFlow::Continue(()) => {}
+                ControlFlow::Break(answer) => return answer,
+            }
+            if alone {
+                break;
+            }
+        }
+        loop {
+            match turned(self.next(), state, turn) {
+                ControlFlow::Continue(()) => {}
+                ControlFlow::Break(answer) => return answer,
+            }
+        }
+    }
+}
+
 impl<
     T: FallibleIterator,
     U: FallibleIterator<Error = T::Error>,
@@ -39,36 +78,57 @@ impl<
 
     /// Of each side it takes the buffered item, or draws once, and nothing once the side returned `Ok(None)`; the right only if the left didn't fail. It calls the closure on the two items, and buffers the one that isn't yielded. Each fold draws so too.
     fn next(&mut self) -> Result<Option<EitherOrBoth<T::Item, U::Item>>, T::Error> {
-        let from_left = self.left.give()?;
-        let from_right = match self.right.give() {
-            Ok(given) => given,
-            Err(e) => {
-                self.left.held = from_left;
-                return Err(e);
-            }
-        };
-        match (from_left, from_right) {
-            (Some(x), Some(y)) => match (self.f)(&x, &y) {
-                Ok(Ordering::Less) => {
-                    self.right.held = Some(y);
-                    Ok(Some(EitherOrBoth::Left(x)))
-                }
-                Ok(Ordering::Equal) => Ok(Some(EitherOrBoth::Both(x, y))),
-                Ok(Ordering::Greater) => {
-                    self.left.held = Some(x);
-                    Ok(Some(EitherOrBoth::Right(y)))
-                }
-                Err(e) => Err(e),
-            },
-            (Some(x), None) => Ok(Some(EitherOrBoth::Left(x))),
-            (None, Some(y)) => Ok(Some(EitherOrBoth::Right(y))),
-            (None, None) => Ok(None),
-        }
+        self.next_of_both().0
     }
 
     fn size_hint(&self) -> (usize, Option<usize>) {
         let left = self.left.hint();
         let right = self.right.hint();
         (greater(left, right).0, sum(left, right).1)
+    }
+
+    crate::base::by_drive!(drive);
+}
+
+impl<
+    T: FallibleIterator,
+    U: FallibleIterator<Error = T::Error>,
+    F: FnMut(&T::Item, &U::Item) -> Result<Ordering, T::Error>,
+> DrawsBoth for MergeJoinBy<T, U, F>
+{
+    #[inline(always)]
+    fn next_of_both(
+        &mut self,
+    ) -> (
+        Result<Option<EitherOrBoth<T::Item, U::Item>>, T::Error>,
+        bool,
+    ) {
+        match self.left.give() {
+            Ok(Some(x)) => match self.right.give() {
+                Ok(Some(y)) => match (self.f)(&x, &y) {
+                    Ok(Ordering::Less) => {
+                        self.right.held = Some(y);
+                        (Ok(Some(EitherOrBoth::Left(x))), false)
+                    }
+                    Ok(Ordering::Equal) => (Ok(Some(EitherOrBoth::Both(x, y))), false),
+                    Ok(Ordering::Greater) => {
+                        self.left.held = Some(x);
+                        (Ok(Some(EitherOrBoth::Right(y))), false)
+                    }
+                    Err(e) => (Err(e), false),
+                },
+                Ok(None) => (Ok(Some(EitherOrBoth::Left(x))), true),
+                Err(e) => {
+                    self.left.held = Some(x);
+                    (Err(e), false)
+                }
+            },
+            Ok(None) => match self.right.give() {
+                Ok(Some(y)) => (Ok(Some(EitherOrBoth::Right(y))), true),
+                Ok(None) => (Ok(None), true),
+                Err(e) => (Err(e), true),
+            },
+            Err(e) => (Err(e), false),
+        }
     }
 }

@@ -1,7 +1,14 @@
 //! The adapter that yields what a closure returns for each index that no item has.
 
+use crate::base::Turn;
 use crate::base::{Outcome, Pass, passed};
+<<<<<<< HEAD:rust/fallible-itertools/src/fallible_itertools_joins/pad_using.rs
 use crate::fallible_itertools_joins::zip_longest::{EitherOrBoth, greater};
+=======
+use crate::fallible_itertools_adapters::sides::{DrawsBoth, turned};
+use crate::fallible_itertools_adapters::zip_longest::{EitherOrBoth, greater};
+use core::ops::ControlFlow;
+>>>>>>> joins:rust/fallible-itertools/src/fallible_itertools_adapters/pad_using.rs
 use fallible_iterator::{FallibleIterator, Fuse};
 
 /// The items of the source, and then what the closure returns for each index below n that no item has. The source is fused. If the closure fails, its failure stands in that item's place.
@@ -29,6 +36,33 @@ impl<I, F> PadUsing<I, F> {
     }
 }
 
+// The fold by turns, by which `try_fold` goes.
+impl<I: FallibleIterator, F: FnMut(usize) -> Result<I::Item, I::Error>> PadUsing<I, F> {
+    #[inline(always)]
+    fn fold_by<C, R, K: Turn<C, I::Item, R>>(
+        &mut self,
+        state: &mut C,
+        turn: &K,
+    ) -> Result<Option<R>, I::Error> {
+        loop {
+            let (answer, alone) = self.next_of_both();
+            match turned(answer, state, turn) {
+                ControlFlow::Continue(()) => {}
+                ControlFlow::Break(answer) => return answer,
+            }
+            if alone {
+                break;
+            }
+        }
+        loop {
+            match turned(self.next(), state, turn) {
+                ControlFlow::Continue(()) => {}
+                ControlFlow::Break(answer) => return answer,
+            }
+        }
+    }
+}
+
 impl<I: FallibleIterator, F: FnMut(usize) -> Result<I::Item, I::Error>> FallibleIterator
     for PadUsing<I, F>
 {
@@ -38,13 +72,25 @@ impl<I: FallibleIterator, F: FnMut(usize) -> Result<I::Item, I::Error>> Fallible
 
     /// Draws once until the source returned `Ok(None)`. From then on it draws nothing, and calls the closure once until n items were yielded. Each fold draws so too.
     fn next(&mut self) -> Result<Option<I::Item>, I::Error> {
-        let beside = beside_index(&mut self.it, &mut self.next, self.end);
-        passed(beside, &mut self.f, &PadPass)
+        self.next_of_both().0
     }
 
     fn size_hint(&self) -> (usize, Option<usize>) {
         let missing = self.end.saturating_sub(self.next);
         greater(self.it.size_hint(), (missing, Some(missing)))
+    }
+
+    crate::base::by_drive!(drive);
+}
+
+impl<I: FallibleIterator, F: FnMut(usize) -> Result<I::Item, I::Error>> DrawsBoth
+    for PadUsing<I, F>
+{
+    #[inline(always)]
+    fn next_of_both(&mut self) -> (Result<Option<I::Item>, I::Error>, bool) {
+        let beside = beside_index(&mut self.it, &mut self.next, self.end);
+        let alone = matches!(beside, Ok(Some(EitherOrBoth::Right(_))));
+        (passed(beside, &mut self.f, &PadPass), alone)
     }
 }
 
