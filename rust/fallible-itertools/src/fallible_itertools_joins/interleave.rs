@@ -2,7 +2,7 @@
 
 use crate::base::Turn;
 use crate::base::sum;
-use crate::fallible_itertools_adapters::sides::{DrawsBoth, turned};
+use crate::fallible_itertools_joins::sides::{DrawsBoth, turned};
 use core::ops::ControlFlow;
 use fallible_iterator::{FallibleIterator, Fuse};
 

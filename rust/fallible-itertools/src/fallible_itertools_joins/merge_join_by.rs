@@ -2,13 +2,8 @@
 
 use crate::base::Turn;
 use crate::base::sum;
-<<<<<<< HEAD:rust/fallible-itertools/src/fallible_itertools_joins/merge_join_by.rs
-use crate::fallible_itertools_joins::sides::Holding;
+use crate::fallible_itertools_joins::sides::{DrawsBoth, Holding, turned};
 use crate::fallible_itertools_joins::zip_longest::{EitherOrBoth, greater};
-=======
-use crate::fallible_itertools_adapters::sides::{DrawsBoth, Holding, turned};
-use crate::fallible_itertools_adapters::zip_longest::{EitherOrBoth, greater};
->>>>>>> joins:rust/fallible-itertools/src/fallible_itertools_adapters/merge_join_by.rs
 use core::cmp::Ordering;
 use core::ops::ControlFlow;
 use fallible_iterator::{FallibleIterator, Fuse};

@@ -2,13 +2,9 @@
 
 use crate::base::Turn;
 use crate::base::{Outcome, Pass, passed};
-<<<<<<< HEAD:rust/fallible-itertools/src/fallible_itertools_joins/pad_using.rs
+use crate::fallible_itertools_joins::sides::{DrawsBoth, turned};
 use crate::fallible_itertools_joins::zip_longest::{EitherOrBoth, greater};
-=======
-use crate::fallible_itertools_adapters::sides::{DrawsBoth, turned};
-use crate::fallible_itertools_adapters::zip_longest::{EitherOrBoth, greater};
 use core::ops::ControlFlow;
->>>>>>> joins:rust/fallible-itertools/src/fallible_itertools_adapters/pad_using.rs
 use fallible_iterator::{FallibleIterator, Fuse};
 
 /// The items of the source, and then what the closure returns for each index below n that no item has. The source is fused. If the closure fails, its failure stands in that item's place.

@@ -3,6 +3,7 @@ use fallible_iterator::memory::AllocError;
 
 use crate::fallible_pg::base64::{base64, from_base64};
 use crate::fallible_pg::sending::{Unsent, message_of};
+use crate::fallible_pg::strings::before;
 use crate::program_io::numbers::number_of;
 use std::str::from_utf8;
 
@@ -49,16 +50,6 @@ struct Question<'a> {
     digits: &'a [u8],
 }
 
-// The bytes before the first comma.
-fn before_comma(bytes: &[u8]) -> &[u8] {
-    for place in 0..bytes.len() {
-        if bytes[place] == b',' {
-            return &bytes[..place];
-        }
-    }
-    bytes
-}
-
 // The bytes after so many; none where there are fewer.
 fn beyond(bytes: &[u8], count: usize) -> &[u8] {
     if count <= bytes.len() {
@@ -68,12 +59,13 @@ fn beyond(bytes: &[u8], count: usize) -> &[u8] {
     }
 }
 
-// The parts that a text may have which a server asks. Whether it has these is for the caller to see.
+// The parts that a text has, if a server asks well by it. Whether it does is for the caller to see.
 fn parts_of(asked: &[u8]) -> Question<'_> {
-    let nonce = before_comma(beyond(asked, 2));
-    let rest = beyond(beyond(asked, 2), nonce.len());
-    let salt = before_comma(beyond(rest, 3));
-    let digits = beyond(beyond(beyond(rest, 3), salt.len()), 3);
+    let words = beyond(asked, 2);
+    let nonce = before(b',', words);
+    let salted = beyond(beyond(words, nonce.len()), 3);
+    let salt = before(b',', salted);
+    let digits = beyond(beyond(salted, salt.len()), 3);
     Question {
         nonce,
         salt,
@@ -149,7 +141,7 @@ pub struct Answer {
     wanted: Vec<u8>,
 }
 
-/// The answer to what a server asks, after the client sent a text of its own first; `None` where that isn't asked as it must be, or doesn't begin with the client's text. It never fails with `Long`.
+/// The answer to what a server asks, after the client sent a text of its own first; `None` only where the server doesn't ask well: in other words, with a number of rounds that is none, or by a text that doesn't begin with the client's or has a comma. It never fails with `Long`.
 pub fn answer_of<H: Hash>(
     hash: &H,
     password: &[u8],
