@@ -1,3 +1,6 @@
+mod CountLemmas
+mod DigitLemmas
+mod FindingLemmas
 pub mod HeaderFaults
 mod NameLemmas
 mod OverlapLemmas

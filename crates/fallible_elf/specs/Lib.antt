@@ -1,5 +1,6 @@
 -- What the clauses of `src/` cite.
 pub mod Faults
+pub mod Finding
 pub mod Headers
 pub mod Names
 pub mod Numbers

@@ -28,6 +28,10 @@ abbrev pub place_or_0 : Option ℕ → ℕ
 place_or_0 (Some place) = place
 place_or_0 None = 0
 
+-- the room that is left after a section's name, or the fault where it has too little: it is where the name begins
+abbrev pub room_after : List ℕ → ℕ → Section → Result ℕ ElfFault
+room_after bytes room section = if nat_le (length_of_name bytes section) room then Ok (room - length_of_name bytes section) else Err (fault_at (place_or_0 section.name) NamesTooLong)
+
 -- The names of sections, in the order of these, have room for so many bytes together: the fault is where the first name begins for which too few are left.
 unfoldable pub names_within : List ℕ → ℕ → List Section → Result (Unit {0}) ElfFault
 names_within bytes room [] = Ok tt

@@ -1,5 +1,5 @@
 -- What a run over a file reads and writes, and what it tells of a fault.
-use Rattle.std.specs.Prelude.{◌≡◌, ◌⊎◌, ℕ, List, ◌++◌, Option, Some, None, Result, Ok, Err, codes}
+use Rattle.std.specs.Prelude.{◌≡◌, ◌⊎◌, ⊤, ℕ, List, ◌++◌, length, Option, Some, None, Result, Ok, Err, codes}
 use Rattle.std.specs.Io.KnownBytes.{Appends}
 use Rattle.program_io.specs.Faults.{placed_text}
 use Rattle.program_io.specs.Reading.{ReadsAll}
@@ -13,7 +13,7 @@ use Rattle.fallible_elf.specs.Sets.{range_sections, sets_of, ranges_of}
 use Rattle.fallible_iterator.specs.Fault.{Fault}
 use Rattle.fallible_iterator.specs.Fault.TheVariants.{Source}
 use Rattle.program_io.specs.declared.fault.RunFault.{RunFault}
-use Rattle.program_io.specs.declared.fault.RunFault.TheVariants.{Input, Memory}
+use Rattle.program_io.specs.declared.fault.RunFault.TheVariants.{Input, Read, Memory}
 use Rattle.fallible_elf.specs.declared.fault.Damage.{Damage}
 use Rattle.fallible_elf.specs.declared.fault.Damage.TheVariants.{NotElf, HeaderCut, NotWide, NotLittleEndian, EntrySize, TableOutOfRange, NamesNumber, NamesOutOfRange, NamesNotEnded, NameOutOfRange, NamesTooLong, SetsOutOfRange, SetsOverlap, SetsCompressed, SetsRelocated, SetCut, SetForm, SetVersion, AddressSize, SegmentSize, RangesNotEnded}
 use Rattle.fallible_elf.specs.declared.fault.ElfFault.{ElfFault}
@@ -37,14 +37,22 @@ ranges_apart bytes = on_value (collected (range_sections bytes)) (λ sections. a
 abbrev pub found_of : List ℕ → Result (List Set × List Range) ElfFault
 found_of bytes = on_value (ranges_apart bytes) (λ _. on_value (collected (sets_of bytes)) (λ sets. on_value (collected (ranges_of bytes)) (λ ranges. Ok (sets, ranges))))
 
--- These are the sets and the ranges, or the first fault of these.
+-- A file has so many sections, and none of them has a fault.
+abbrev pub HasSectionsOf : List ℕ → ℕ → Type 0
+HasSectionsOf bytes n = (sections : List Section) × (named_sections bytes ≡ Ok sections) × (n ≡ length sections)
+
+-- A file has so many sets and ranges, and none of them has a fault.
+abbrev pub HasFound : List ℕ → Found → Type 0
+HasFound bytes found = (sets : List Set) × (ranges : List Range) × (found_of bytes ≡ Ok (sets, ranges)) × (found.sets ≡ length sets) × (found.ranges ≡ length ranges)
+
+-- A file has so many sets and ranges, or this is the first fault of these.
 abbrev pub IsFound : List ℕ → Result Found ElfFault → Type 0
-IsFound bytes (Ok found) = found_of bytes ≡ Ok (found.sets.items, found.ranges.items)
+IsFound bytes (Ok found) = HasFound bytes found
 IsFound bytes (Err f) = found_of bytes ≡ Err f
 
--- These are all the sections of a file, and its sets and ranges or the first fault of these.
+-- A file has so many sections, and so many sets and ranges or the first fault of these.
 abbrev pub HasTables : List ℕ → Tables → Type 0
-HasTables bytes tables = (named_sections bytes ≡ Ok tables.sections.items) × IsFound bytes tables.found
+HasTables bytes tables = HasSectionsOf bytes tables.sections × IsFound bytes tables.found
 
 -- No section of a file has a fault.
 abbrev pub HasSections : List ℕ → Type 0
@@ -78,6 +86,13 @@ abbrev pub ReadsFaulty : Option (List ℕ) → Option (List ℕ) → ElfFault �
 ReadsFaulty unread unread' fault written written' =
     ReadsAll unread unread' (λ bytes. HasHeader bytes × Reports bytes (Some fault) written written')
     ⊎ ReadsHead unread unread' (λ bytes. HasHeaderFault fault bytes × Reports bytes (Some fault) written written')
+
+-- Nothing was written, and the writer is as it was, where no memory was left or a read failed; and where the input has a fault, unless its sections have none.
+abbrev pub LeavesWriter : {W : Type 0} → Type 0 → W → W → Result (Unit {0}) (RunFault ElfFault) → Type 0
+LeavesWriter has_sections writer writer' (Err (Input fault)) = (writer' ≡ writer) ⊎ has_sections
+LeavesWriter has_sections writer writer' (Err Read) = writer' ≡ writer
+LeavesWriter has_sections writer writer' (Err Memory) = writer' ≡ writer
+LeavesWriter has_sections writer writer' outcome = ⊤
 
 -- ---- faults
 

@@ -1,7 +1,7 @@
 -- The sets of address ranges that stand in a file, and their ranges, as DWARF writes them in sections `.debug_aranges`.
-use Rattle.std.specs.Prelude.{ℕ, zero, suc, ◌+◌, ◌-◌, ◌*◌, ◌/◌, ◌%◌, min, drop, List, [], ◌∷◌, ◌++◌, length, slice_index, Bool, false, not, Option, Some, None, Result, Ok, Err, nat_le, nat_lt, nat_eq, eqb, ◌&&◌, ◌||◌, if◌then◌else◌, codes}
+use Rattle.std.specs.Prelude.{ℕ, zero, suc, ◌+◌, ◌-◌, ◌*◌, ◌/◌, ◌%◌, ◌^◌, min, drop, List, [], ◌∷◌, ◌++◌, length, slice_index, Bool, false, not, Option, Some, None, Result, Ok, Err, nat_le, nat_lt, nat_eq, eqb, ◌&&◌, ◌||◌, if◌then◌else◌, codes}
 use Rattle.std.specs.List.{starts_with}
-use Rattle.fallible_iterator.specs.Lists.{on_value, filtered, flattened}
+use Rattle.fallible_iterator.specs.Lists.{on_value, filtered, flattened, folded}
 use Rattle.fallible_elf.specs.Faults.{fault_at, fault_in, first_fault}
 use Rattle.fallible_elf.specs.Numbers.{u16_at, u32_at, u64_at}
 use Rattle.fallible_elf.specs.Sections.{headers_of}
@@ -161,3 +161,9 @@ ranges_in bytes set = ranges_from (Some (fault_at (set.place + 16 * room bytes s
 -- the ranges of all sets of a file, set by set
 abbrev pub ranges_of : List ℕ → List (Result Range ElfFault)
 ranges_of bytes = flattened (ranges_in bytes) (sets_of bytes)
+
+-- ---- counts
+
+-- how many items there are, or 2 ^ 64 - 1 where there are more, or the first failure
+abbrev pub counted_up_to_most : {A : Type 0} → List (Result A ElfFault) → Result ℕ ElfFault
+counted_up_to_most l = folded (λ e. e) (λ n _. Ok (min (n + 1) (2 ^ 64 - 1))) 0 l

@@ -24,6 +24,12 @@ abbrev pub lines_from : {A : Type 0} → (ℕ → A → List ℕ) → ℕ → Li
 lines_from line n [] = []
 lines_from line n (x ∷ xs) = line n x ++ lines_from line (n + 1) xs
 
+-- the lines of items, one after the other, up to the first failure
+unfoldable pub lines_of : {A : Type 0} → (A → List ℕ) → List (Result A ElfFault) → List ℕ
+lines_of line [] = []
+lines_of line (Ok x ∷ l) = line x ++ lines_of line l
+lines_of line (Err f ∷ l) = []
+
 -- how many there are, on a line after a word, and then their lines
 abbrev pub table_text : {A : Type 0} → List ℕ → (ℕ → A → List ℕ) → List A → List ℕ
 table_text word line xs = word ++ decimal (length xs) ++ 10 ∷ lines_from line 0 xs

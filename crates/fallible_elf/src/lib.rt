@@ -1,7 +1,9 @@
 //! The section headers and the address ranges of an ELF file of 64 bits whose numbers begin with their least byte.
 #![tactic(auto)]
 
+mod digits;
 pub mod fault;
+pub mod finding;
 pub mod header;
 pub mod laws;
 pub mod lines;

@@ -1,9 +1,13 @@
 //! The names of sections.
-ghost use Rattle.std.specs.Prelude.{◌≡◌};
-ghost use Rattle.fallible_elf.specs.Names.{name_length, name_at, name_or_none, place_or_0, names_check};
+ghost use Rattle.std.specs.Prelude.{◌≡◌, List, Ok};
+ghost use Rattle.fallible_iterator.specs.Lists.{collected};
+ghost use Rattle.fallible_elf.specs.Names.{name_length, name_at, name_or_none, place_or_0, room_after, names_check};
+ghost use Rattle.fallible_elf.specs.Sections.{headers_of};
 
 use crate::fault::{Damage, ElfFault};
 use crate::section::Section;
+use crate::sections::sections_of;
+use fallible_iterator::FallibleIterator;
 
 // How many bytes stand before the first 0.
 fn length_of(bytes: &[u8]) -> usize
@@ -47,17 +51,28 @@ fn place_or_0(place: Option<usize>) -> usize
     }
 }
 
-/// Whether the names of a file's sections have together at most four times as many bytes as the file. The fault is at the first byte of the first name with which they have more.
-pub fn check_names(file: &[u8], sections: &[Section]) -> Result<(), ElfFault>
-    ensures { result ≡ names_check file.now sections.now }
+// The room that is left after a section's name, or the fault where it has too little.
+fn room_after(file: &[u8], room: u128, section: &Section) -> Result<u128, ElfFault>
+    ensures { result ≡ room_after file.now room section.now }
 {
-    let mut room = 4 * file.len() as u128;
-    for section in sections {
-        let length = name_or_none(file, section.name).len() as u128;
-        if room < length {
-            return Err(ElfFault::at(place_or_0(section.name), Damage::NamesTooLong));
-        }
-        room -= length;
+    let length = name_or_none(file, section.name).len() as u128;
+    if room < length {
+        return Err(ElfFault::at(place_or_0(section.name), Damage::NamesTooLong));
     }
-    Ok(())
+    Ok(room - length)
+}
+
+/// Whether the names of a file's sections have together at most four times as many bytes as the file. The fault is at the first byte of the first name with which they have more. Of a file whose headers have a fault no clause says which one it returns.
+pub fn check_names(file: &[u8]) -> Result<(), ElfFault>
+    ensures { (sections : List Section) → collected (headers_of file.now) ≡ Ok sections
+        → result ≡ names_check file.now sections }
+{
+    let room = sections_of(file).fold(
+        4 * file.len() as u128,
+        |room: u128, section: Section| room_after(file, room, &section),
+    );
+    match room {
+        Ok(_) => Ok(()),
+        Err(fault) => Err(fault),
+    }
 }

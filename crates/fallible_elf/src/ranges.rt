@@ -5,7 +5,7 @@ ghost use Rattle.fallible_iterator.specs.Laws.Showing.{lawful_listing};
 ghost use Rattle.fallible_iterator.specs.Lists.{CollectedAs};
 ghost use Rattle.fallible_iterator.specs.Own.{bounded_by};
 ghost use Rattle.fallible_iterator.specs.Showing.{listing};
-ghost use Rattle.fallible_elf.specs.Sets.{ranges_from, ranges_in, ranges_of};
+ghost use Rattle.fallible_elf.specs.Sets.{ranges_from, ranges_in, ranges_of, counted_up_to_most};
 
 use crate::fault::{Damage, ElfFault};
 use crate::numbers::u64_at;
@@ -68,7 +68,7 @@ impl FallibleIterator for Ranges<'_> {
 }
 
 // No set has so many ranges.
-const MOST: usize = 1 << 60;
+pub(crate) const MOST: usize = 1 << 60;
 
 /// A set and the file in which it stands. It becomes the ranges of the set.
 #[derive(Clone, Copy, Drop)]
@@ -114,4 +114,17 @@ pub fn all_ranges(alloc: Global, file: &[u8]) -> Result<Vec<Range>, Fault<ElfFau
     let joined = sets.flat_map(|set| Ok(SetIn { file, set }));
     law_flat_map_finite(&joined, MOST);
     joined.collect(alloc)
+}
+
+/// How many ranges the sets of a file have, or 2 ^ 64 - 1 where there are more; or its first fault.
+pub fn count_ranges(file: &[u8]) -> Result<usize, ElfFault>
+    ensures { result ≡ counted_up_to_most (ranges_of file.now) }
+{
+    let sets = sections_of(file)
+        .filter(|section| Ok(has_ranges(file, section)))
+        .flat_map(|section| Ok(SectionIn { file, section }));
+    law_flat_map_finite(&sets, usize::MAX);
+    let joined = sets.flat_map(|set| Ok(SetIn { file, set }));
+    law_flat_map_finite(&joined, MOST);
+    joined.fold(0, |count: usize, _: Range| Ok(count.saturating_add(1)))
 }

@@ -3,7 +3,7 @@ ghost use Rattle.std.specs.Prelude.{◌≡◌, ◌≢◌, ◌⊎◌, Err, Some, 
 ghost use Rattle.std.specs.Io.KnownBytes.{Appends, Keeps};
 ghost use Rattle.program_io.specs.Reading.{Fails, ReadsAll};
 ghost use Rattle.fallible_elf.specs.Reading.{HasHeader};
-ghost use Rattle.fallible_elf.specs.Report.{HasTables, HasSections, Reports, ReadsFaulty, report_of, damage_text, status_of, text_of, as_run_fault};
+ghost use Rattle.fallible_elf.specs.Report.{HasTables, HasSections, LeavesWriter, Reports, ReadsFaulty, report_of, damage_text, status_of, text_of, as_run_fault};
 ghost use Rattle.fallible_elf.specs.declared.fault.ElfFault.{ElfFault};
 ghost use Rattle.std.specs.declared.io.ErrorKind.{ErrorKind};
 
@@ -29,19 +29,21 @@ pub fn run_fault(fault: Fault<ElfFault>) -> RunFault<ElfFault>
     }
 }
 
-// Writes the tables of a file.
-fn write_tables<W: WriteText>(file: &[u8], tables: &Tables, writer: &mut W) -> io::Result<()>
-    requires { HasTables file.now tables.now }
+// Writes the report of a file.
+fn write_tables<W: WriteText>(file: &[u8], tables: Tables, writer: &mut W) -> io::Result<()>
+    requires { HasTables file.now tables }
     ensures text { OnOk result
         (Appends (W.written writer.old) (W.written writer.new) (report_of file.now)) }
     ensures failed { OnErr result (W.failed writer.new) }
 {
-    write_sections(file, tables.sections.as_slice(), writer)?;
-    if let Ok(found) = &tables.found {
-        write_sets(found.sets.as_slice(), writer)?;
-        write_ranges(found.ranges.as_slice(), writer)?;
+    write_sections(file, tables.sections, writer)?;
+    match tables.found {
+        Ok(found) => {
+            write_sets(file, found.sets, writer)?;
+            write_ranges(file, found.ranges, writer)
+        }
+        Err(_) => Ok(()),
     }
-    Ok(())
 }
 
 /// Writes the sections of a file to `writer`, and then its sets and their ranges. At a fault of a section nothing is written, and at one of a set or a range the sections alone. It fails with `Input` and the file's first fault, with `Memory` if an allocation fails, before anything is written, and with `Write` where the writer fails.
@@ -59,12 +61,13 @@ pub fn report<W: WriteText>(
     ensures write { result ≡ Err RunFault.Write
         → HasSections file.now × W.failed writer.new }
     ensures read { result ≢ Err RunFault.Read }
+    ensures untouched { LeavesWriter (HasSections file.now) writer.old writer.new result }
 {
     let tables = match tables_of(alloc, file) {
         Ok(tables) => tables,
         Err(fault) => return Err(run_fault(fault)),
     };
-    if write_tables(file, &tables, writer).is_err() {
+    if write_tables(file, tables, writer).is_err() {
         return Err(RunFault::Write);
     }
     match tables.found {
@@ -98,6 +101,9 @@ pub fn run<R: ReadBytes, W: WriteText>(
         → (Fails R.left R.fails ErrorKind.OutOfMemory reader.old reader.new
         ⊎ ReadsAll (R.left reader.old) (R.left reader.new) HasHeader)
         × Keeps (W.written writer.old) (W.written writer.new) }
+    ensures untouched { LeavesWriter
+        (ReadsAll (R.left reader.old) (R.left reader.new) HasSections)
+        writer.old writer.new result }
 {
     match read_file(reader, alloc) {
         Ok(Ok(file)) => report(alloc, file.as_slice(), writer),

@@ -1,49 +1,45 @@
-//! All that is read of a file.
-ghost use Rattle.std.specs.Prelude.{◌≡◌, Ok, Err, IfOk};
-ghost use Rattle.fallible_elf.specs.Report.{HasTables, found_of, named_sections, ranges_apart};
+//! How much is read of a file.
+ghost use Rattle.std.specs.Prelude.{◌≡◌, ◌≢◌, ◌^◌, ◌-◌, Ok, Err, IfOk, IfErr, IsTrue};
+ghost use Rattle.fallible_elf.specs.Report.{HasSectionsOf, HasFound, HasTables, found_of, named_sections, ranges_apart};
+ghost use Rattle.fallible_elf.specs.Sets.{counted_up_to_most, ranges_of, sets_of};
 ghost use Rattle.fallible_elf.specs.declared.fault.ElfFault.{ElfFault};
 ghost use Rattle.fallible_iterator.specs.Fault.{Fault};
 
 use crate::fault::ElfFault;
 use crate::names::check_names;
 use crate::overlaps::check_apart;
-use crate::ranges::all_ranges;
-use crate::section::Section;
-use crate::sections::all_sections;
-use crate::set::{Range, Set};
-use crate::sets::{all_sets, range_sections};
-use fallible_iterator::Fault;
-use std::alloc::Global;
+use crate::ranges::count_ranges;
+use crate::sections::sections_of;
+use crate::sets::{count_sets, range_sections};
+use fallible_iterator::{FallibleIterator, Fault};
+use std::alloc::{AllocError, Global};
 
-/// The address ranges of a file.
-#[derive(Drop)]
+/// How many address ranges a file has.
+#[derive(Clone, Copy, Debug, PartialEq, Eq)]
 pub struct Found {
-    /// Its sets of address ranges.
-    pub sets: Vec<Set>,
-    /// The ranges of all sets.
-    pub ranges: Vec<Range>,
+    /// How many sets of address ranges.
+    pub sets: usize,
+    /// How many ranges all sets have.
+    pub ranges: usize,
 }
 
-/// What is read of a file.
-#[derive(Drop)]
+/// How much is read of a file.
+#[derive(Clone, Copy, Debug, PartialEq, Eq)]
 pub struct Tables {
-    /// Its sections.
-    pub sections: Vec<Section>,
-    /// Its address ranges, or the first fault of these.
+    /// How many sections.
+    pub sections: usize,
+    /// How many address ranges, or the first fault of these.
     pub found: Result<Found, ElfFault>,
 }
 
-// The sections of a file, or the first fault of their headers and of their names together.
-fn named_sections(alloc: Global, file: &[u8]) -> Result<Vec<Section>, Fault<ElfFault>>
-    ensures ok { IfOk result (λ sections. named_sections file.now ≡ Ok sections.items) }
-    ensures fault { (fault : ElfFault) → result ≡ Err (Fault.Source fault)
-        → named_sections file.now ≡ Err fault }
+// How many sections a file has, or the first fault of their headers and of their names together.
+fn named_sections(file: &[u8]) -> Result<usize, ElfFault>
+    ensures ok { IfOk result (HasSectionsOf file.now) }
+    ensures fault { IfErr result (λ fault. named_sections file.now ≡ Err fault) }
 {
-    let sections = all_sections(alloc, file)?;
-    match check_names(file, sections.as_slice()) {
-        Ok(()) => Ok(sections),
-        Err(fault) => Err(Fault::Source(fault)),
-    }
+    let sections = sections_of(file).count()?;
+    check_names(file)?;
+    Ok(sections)
 }
 
 // Whether the sections of address ranges of a file lie apart, or the first fault.
@@ -56,26 +52,65 @@ fn ranges_apart(alloc: Global, file: &[u8]) -> Result<(), Fault<ElfFault>>
     check_apart(alloc, file, sections.as_slice())
 }
 
-// The sets of a file and then their ranges, or the first fault of these.
+// Whether the counts are no bound at which they stopped.
+fn is_exact(found: Found) -> bool
+    ensures { IsTrue result → (found.sets ≢ 2 ^ 64 - 1) × (found.ranges ≢ 2 ^ 64 - 1) }
+{
+    found.sets != usize::MAX && found.ranges != usize::MAX
+}
+
+// The counts, if they are exact.
+fn exact(found: Found) -> Result<Found, AllocError>
+    ensures { IfOk result (λ counts. (counts ≡ found) × (found.sets ≢ 2 ^ 64 - 1)
+        × (found.ranges ≢ 2 ^ 64 - 1)) }
+{
+    // No memory: more than 2 ^ 64 - 1 sets or ranges, of some bytes each, have room in none.
+    if !is_exact(found) {
+        return Err(AllocError);
+    }
+    Ok(found)
+}
+
+// How many sets and ranges a file has, each up to 2 ^ 64 - 1; or their first fault.
+fn counts_of(file: &[u8]) -> Result<Found, ElfFault>
+    ensures sets { IfOk result (λ found. counted_up_to_most (sets_of file.now) ≡ Ok found.sets) }
+    ensures ranges { IfOk result (λ found.
+        counted_up_to_most (ranges_of file.now) ≡ Ok found.ranges) }
+    ensures fault { IfErr result (λ fault. ranges_apart file.now ≡ Ok tt
+        → found_of file.now ≡ Err fault) }
+{
+    let sets = count_sets(file)?;
+    let ranges = count_ranges(file)?;
+    Ok(Found { sets, ranges })
+}
+
+// How many sets and ranges a file has, or the first fault of these.
 fn found_in(alloc: Global, file: &[u8]) -> Result<Found, Fault<ElfFault>>
-    ensures ok { IfOk result (λ found.
-        found_of file.now ≡ Ok (found.sets.items, found.ranges.items)) }
+    ensures ok { IfOk result (HasFound file.now) }
     ensures fault { (fault : ElfFault) → result ≡ Err (Fault.Source fault)
         → found_of file.now ≡ Err fault }
 {
     ranges_apart(alloc, file)?;
-    let sets = all_sets(alloc, file)?;
-    let ranges = all_ranges(alloc, file)?;
-    Ok(Found { sets, ranges })
+    let found = match counts_of(file) {
+        Ok(found) => found,
+        Err(fault) => return Err(Fault::Source(fault)),
+    };
+    match exact(found) {
+        Ok(found) => Ok(found),
+        Err(e) => Err(Fault::Memory(e)),
+    }
 }
 
-/// The sections of a file, or the first fault of these; and its sets and their ranges, or the first fault of those.
+/// How many sections a file has, or the first fault of these; and how many sets and ranges, or the first fault of those.
 pub fn tables_of(alloc: Global, file: &[u8]) -> Result<Tables, Fault<ElfFault>>
     ensures ok { IfOk result (λ tables. HasTables file.now tables) }
     ensures fault { (fault : ElfFault) → result ≡ Err (Fault.Source fault)
         → named_sections file.now ≡ Err fault }
 {
-    let sections = named_sections(alloc, file)?;
+    let sections = match named_sections(file) {
+        Ok(sections) => sections,
+        Err(fault) => return Err(Fault::Source(fault)),
+    };
     match found_in(alloc, file) {
         Ok(found) => Ok(Tables {
             sections,

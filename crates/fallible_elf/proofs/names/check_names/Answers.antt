@@ -1,16 +1,14 @@
--- The names so far had room, or the next one has none.
-use Rattle.std.proofs.Common.{ap, sym, ◌∙◌}
-use Rattle.fallible_elf.specs.Faults.{fault_at}
-use Rattle.fallible_elf.specs.declared.fault.Damage.TheVariants.{NamesTooLong}
-use Rattle.std.specs.Prelude.{Err}
-use Rattle.fallible_elf.proofs.NameLemmas.{names_within_at_fitting_name, names_within_fault, names_within_all}
+-- The names had room by the fold, or one of them had none.
+use Rattle.std.specs.Prelude.{◌*◌, length, Ok}
+use Rattle.std.proofs.Common.{rules, ap, ◌∙◌}
+use Rattle.fallible_iterator.specs.Lists.{on_value}
+use Rattle.fallible_elf.specs.Names.{room_after}
+use Rattle.fallible_elf.specs.Sections.{headers_of}
+use Rattle.fallible_elf.proofs.NameLemmas.{folded_is_names_within, told_of_names, fault_of_names}
 use Rattle.fallible_elf.proofs.names.check_names.Goals as goal
 
-pub returns-then-room-length : goal.returns-then-room-length
-returns-then-room-length c = ap Err (c.at.ensures ∙ ap (λ p. fault_at p NamesTooLong) c.place_or_0.ensures) ∙ sym (names_within_fault _ _ _ _ _ c.loop-section-test.true c.name_or_none.ensures c.if-room-length.true) ∙ c.loop-section.invariant
+pub returns-in-Ok : goal.returns-in-Ok
+returns-in-Ok c = λ sections e. told_of_names c.fold-room.result _ (ap (λ r. on_value r (λ _. Ok tt)) (c.fold-room.ensures.value (room_after c.args.file.now) (headers_of c.args.file.now) (search rules) c.sections_of.ensures.lists) ∙ folded_is_names_within c.args.file.now (headers_of c.args.file.now) sections (4 * length c.args.file.now) e) c.in-Ok.field-0 c.in-Ok.is
 
-pub loop-section-preserved : goal.loop-section-preserved
-loop-section-preserved c = sym (names_within_at_fitting_name _ _ _ _ _ c.loop-section-test.true c.name_or_none.ensures c.if-room-length.false) ∙ c.loop-section.invariant
-
-pub returns : goal.returns
-returns c = sym (names_within_all _ _ _ _ c.loop-section-test.false) ∙ c.loop-section.invariant
+pub returns-in-Err : goal.returns-in-Err
+returns-in-Err c = λ sections e. fault_of_names c.fold-room.result _ (ap (λ r. on_value r (λ _. Ok tt)) (c.fold-room.ensures.value (room_after c.args.file.now) (headers_of c.args.file.now) (search rules) c.sections_of.ensures.lists) ∙ folded_is_names_within c.args.file.now (headers_of c.args.file.now) sections (4 * length c.args.file.now) e) c.in-Err.fault c.in-Err.is

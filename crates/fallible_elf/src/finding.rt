@@ -1,0 +1,130 @@
+//! The first address range of a file that holds an address.
+ghost use Rattle.std.specs.Prelude.{◌≡◌, Ok, Err, IfOk};
+ghost use Rattle.fallible_iterator.specs.Fault.{Fault};
+ghost use Rattle.fallible_iterator.specs.Lists.{found};
+ghost use Rattle.program_io.specs.Reading.{Fails};
+ghost use Rattle.fallible_elf.specs.Finding.{Finds, FindsIn, first_range_at, holds, status_of, text_of};
+ghost use Rattle.fallible_elf.specs.Sets.{ranges_of};
+ghost use Rattle.fallible_elf.specs.declared.fault.ElfFault.{ElfFault};
+
+use crate::fault::ElfFault;
+use crate::lines::write_range;
+use crate::ranges::{MOST, SetIn};
+use crate::reading::read_file;
+use crate::sections::sections_of;
+use crate::set::Range;
+use crate::sets::{SectionIn, has_ranges};
+use crate::tables::{Tables, tables_of};
+use fallible_iterator::laws::law_flat_map_finite;
+use fallible_iterator::{FallibleIterator, Fault};
+use program_io::fault::{InputFault, RunFault, fault_of_read};
+use program_io::reading::ReadBytes;
+use program_io::writing::WriteText;
+use std::alloc::Global;
+use std::io;
+
+/// Why no range was found.
+#[derive(Clone, Copy, Debug, PartialEq, Eq, Drop)]
+pub enum FindFault {
+    /// The file has this fault.
+    File(ElfFault),
+    /// No range of the file holds this address.
+    NoRange(u64),
+}
+
+// Whether a range holds an address.
+fn holds(address: u64, range: &Range) -> bool
+    ensures { result ≡ holds address range.now }
+{
+    range.address <= address && address - range.address < range.length
+}
+
+// The first range of a file that holds an address, or the first fault before.
+fn first_holding(file: &[u8], address: u64) -> Result<Option<Range>, ElfFault>
+    ensures { result ≡ found (λ range. Ok (holds address range)) (ranges_of file.now) }
+{
+    let sets = sections_of(file)
+        .filter(|section| Ok(has_ranges(file, section)))
+        .flat_map(|section| Ok(SectionIn { file, section }));
+    law_flat_map_finite(&sets, usize::MAX);
+    let mut joined = sets.flat_map(|set| Ok(SetIn { file, set }));
+    law_flat_map_finite(&joined, MOST);
+    joined.find(|range: &Range| Ok(holds(address, range)))
+}
+
+/// The first range of a file that holds an address, in the order of the report; `None` where none does, and the file's first fault, where it has one. It fails with `Memory` if an allocation fails.
+pub fn range_at(alloc: Global, file: &[u8], address: u64) -> Result<Option<Range>, Fault<ElfFault>>
+    ensures ok { IfOk result (λ range. first_range_at file.now address ≡ Ok range) }
+    ensures fault { (fault : ElfFault) → result ≡ Err (Fault.Source fault)
+        → first_range_at file.now address ≡ Err fault }
+{
+    let Tables { sections: _, found } = tables_of(alloc, file)?;
+    match found {
+        Ok(_) => match first_holding(file, address) {
+            Ok(range) => Ok(range),
+            Err(fault) => Err(Fault::Source(fault)),
+        },
+        Err(fault) => Err(Fault::Source(fault)),
+    }
+}
+
+// Writes the line of the first range of a file that holds an address.
+fn find_in<W: WriteText>(
+    alloc: Global,
+    address: u64,
+    file: &[u8],
+    writer: &mut W,
+) -> Result<(), RunFault<FindFault>>
+    ensures { FindsIn address W.failed (W.written writer.old) (W.written writer.new)
+        writer.new file.now result }
+{
+    match range_at(alloc, file, address) {
+        Ok(Some(range)) => match write_range(&range, writer) {
+            Ok(()) => Ok(()),
+            Err(_) => Err(RunFault::Write),
+        },
+        Ok(None) => Err(RunFault::Input(FindFault::NoRange(address))),
+        Err(Fault::Source(fault)) => Err(RunFault::Input(FindFault::File(fault))),
+        Err(Fault::Memory(_)) => Err(RunFault::Memory),
+    }
+}
+
+/// Reads a file up to the end of `reader`, and writes the line of its first range that holds an address, as it stands in the report. It fails with `Input` and the file's first fault, where it has one, or that no range holds the address; with `Read` where a read fails, with `Memory` if an allocation fails, and with `Write` where the writer fails. At all but `Write` nothing is written. It looks at the header first, as `report::run` does. An interrupted read is tried again.
+pub fn find<R: ReadBytes, W: WriteText>(
+    alloc: Global,
+    address: u64,
+    reader: &mut R,
+    writer: &mut W,
+) -> Result<(), RunFault<FindFault>>
+    ensures { Finds address W.failed (W.written writer.old) (W.written writer.new) writer.new
+        R.left (Fails R.left R.fails) reader.old reader.new result }
+{
+    match read_file(reader, alloc) {
+        Ok(Ok(file)) => find_in(alloc, address, file.as_slice(), writer),
+        Ok(Err(fault)) => Err(RunFault::Input(FindFault::File(fault))),
+        Err(e) => Err(fault_of_read(&e)),
+    }
+}
+
+impl InputFault for FindFault {
+    ghost status = { status_of };
+
+    ghost text = { text_of };
+
+    /// That of the file's fault, and 7 where no range holds the address.
+    fn status(&self) -> u8 {
+        match self {
+            FindFault::File(fault) => fault.status(),
+            FindFault::NoRange(_) => 7,
+        }
+    }
+
+    fn write_line<W: WriteText>(&self, errors: &mut W) -> io::Result<()> {
+        match self {
+            FindFault::File(fault) => fault.write_line(errors),
+            FindFault::NoRange(address) => {
+                errors.write_text(format_args!("no range holds 0x{:x}\n", *address))
+            }
+        }
+    }
+}
