@@ -19,10 +19,11 @@ PACKAGE = "programs"
 WITHIN = ["fallible_elf", "fallible_rows", "fallible_table"]
 PROGRAMS = ["count_rows", "elf_tables", "json_tokens", "pg_rows", "sum_groups", "sum_table"]
 CRATES = [*LIBRARIES, PACKAGE]
+# Those whose comments have the clauses.
+CONTRACTS = ["fallible-json", "fallible-pg"]
 LINTS = """#![forbid(unsafe_code)]
-// The bodies stay as they are proved.
-#![allow(clippy::manual_map, clippy::manual_range_contains, clippy::needless_borrows_for_generic_args, clippy::needless_lifetimes)]
-#![allow(unused_variables, clippy::question_mark, clippy::redundant_closure, clippy::single_match, clippy::too_many_arguments, clippy::type_complexity)]
+// The bodies stay as they are proved, where a proof may count by a loop's variable.
+#![allow(unused_variables, clippy::complexity, clippy::manual_unwrap_or_default, clippy::perf, clippy::style)]
 """
 HEAD = """#![doc = include_str!("../README.md")]
 #![no_std]
@@ -96,10 +97,10 @@ def of_std(text, no_std):
             text.replace(at, at, "use %s;\n" % path)
 
 
-def used_alone(text, traits):
-    """Leaves out the imports and the constants that nothing in the file uses: a clause or a law did."""
-    for m in reversed(list(re.finditer(r"(?:^//.*\n)*^const (\w+): [^;]*;\n\n?", text.s, re.M))):
-        if len(re.findall(r"\b%s\b" % m.group(1), text.s)) == 1:
+def used_alone(text, traits, whole):
+    """Leaves out the imports and the constants that nothing uses: a clause or a law did. `whole` is the text of the crate."""
+    for m in reversed(list(re.finditer(r"(?:^//.*\n)*^(?:pub\(crate\) )?const (\w+): [^;]*;\n\n?", text.s, re.M))):
+        if len(re.findall(r"\b%s\b" % m.group(1), whole)) == 1:
             text.replace(m.start(), m.end(), "")
     rest = re.sub(r"^(?:pub(?:\([^)]*\))? )?use [^;]*;", "", re.sub(r"//.*", "", text.s), flags=re.M)
     for m in reversed(list(re.finditer(r"^use ([^;]*);\n", text.s, re.M))):
@@ -123,10 +124,12 @@ def made(top, crate, name, docs, home, no_std):
     traits = TRAITS | set(re.findall(r"\btrait (\w+)", "\n".join(p.read_text(encoding="utf-8") for p in (top / "crates").glob("*/src/**/*.rt"))))
     for text in files.values():
         of_std(text, no_std)
-        used_alone(text, traits)
+    whole = "\n".join(text.s for text in files.values())
+    for text in files.values():
+        used_alone(text, traits, whole)
     if "main.rs" in files:
         begun(files["main.rs"])
-    written = {path: Text(text.place, docs.rewrite(text, proved[path])) for path, text in files.items()}
+    written = {path: Text(text.place, docs.rewrite(text, proved[path] if crate in CONTRACTS else "")) for path, text in files.items()}
     same = compare.compare({path: text.s for path, text in written.items()},
                            {path: renamed(path, s, owned, whole) for path, s in proved.items()}, why)
     return written, same
@@ -147,7 +150,9 @@ def library(top, crate, docs, outside):
     head = re.match(r"(?://!.*\n)+\n?", root.s)
     own = {"memory": "", "runtime": '#[cfg(feature = "std")]\n'} if crate == "program-io" else {}
     root.replace(0, head.end() if head else 0, HEAD + "".join("%spub mod %s;\n" % (cfg, mod) for mod, cfg in own.items())
-                 + "#[cfg(doc)]\npub mod words;\n")
+                 + "#[cfg(doc)]\npub mod words;\n" * (crate in CONTRACTS))
+    if crate != "program-io":
+        root.replace(len(root.s), len(root.s), "\n#[doc(no_inline)]\npub use program_io;\n")
     split = Crate(files, outside | ({"crate::runtime::" + x for x in "Args Env File Files OpenFile env".split()}))
     split.mark()
     outside |= split.exported(name)
@@ -204,7 +209,7 @@ def every_file(top, docs, words):
     out, same, outside = {}, {}, set()
     for crate in CRATES:
         files, same[crate] = package(top, docs) if crate == PACKAGE else library(top, crate, docs, outside)
-        if crate != PACKAGE:
+        if crate in CONTRACTS:
             files["src/words.rs"] = words
         for path in sorted((STATIC / crate).rglob("*")):
             rel = str(path.relative_to(STATIC / crate))
