@@ -219,3 +219,12 @@ def every_file(top, docs, words):
         files["LICENSE"] = (top / "LICENSE").read_text(encoding="utf-8")
         out.update(("%s/%s" % (crate, path), s) for path, s in files.items())
     return out, same
+
+
+def table(same):
+    """How many bodies of each crate are the proved ones, and the table of the others."""
+    alike = ", ".join("%d of `%s`" % (count, crate) for crate, ((count, _), _) in same.items())
+    rows = ["| %s | %s | %s | %s |" % (", ".join("`%s`" % x.split(" for ")[-1] for x in dict.fromkeys(names)), crate, *reason)
+            for crate, (_, others) in same.items() for reason, names in sorted(others.items())]
+    return "\n".join(["Of the crates of programs these bodies are word for word the proved ones, but for allocators and the names of calls that may be "
+                      "refused memory: %s. These are not:" % alike, "", "| Body | Crate | How | Why |", "|---|---|---|---|", *rows])
