@@ -19,6 +19,8 @@ PACKAGE = "programs"
 WITHIN = ["fallible_elf", "fallible_rows", "fallible_table"]
 PROGRAMS = ["count_rows", "elf_tables", "json_tokens", "pg_rows", "sum_groups", "sum_table"]
 CRATES = [*LIBRARIES, PACKAGE]
+# Rattle has chains of `if let`, which Rust has from this edition on.
+EDITION = "2024"
 # Those whose comments have the clauses.
 CONTRACTS = ["fallible-json", "fallible-pg"]
 LINTS = """#![forbid(unsafe_code)]
@@ -124,7 +126,7 @@ def made(top, crate, name, docs, home, no_std):
     traits = TRAITS | set(re.findall(r"\btrait (\w+)", "\n".join(p.read_text(encoding="utf-8") for p in (top / "crates").glob("*/src/**/*.rt"))))
     for text in files.values():
         of_std(text, no_std)
-    whole = "\n".join(text.s for text in files.values())
+    whole = re.sub(r"^use [^;]*;", "", "\n".join(text.s for text in files.values()), flags=re.M)
     for text in files.values():
         used_alone(text, traits, whole)
     if "main.rs" in files:
