@@ -1,7 +1,7 @@
 #!/usr/bin/env bash
 # Runs the program count_rows with standard input, output or error closed, and over devices that refuse, and compares
 # its status and what it writes with what is wanted. It proves and builds the program first, where that is not done yet, or runs
-# that of `--program FILE`, as crates/count_rows/out/count_rows, which the gate leaves.
+# that of `--program FILE`, as crates/count_rows/out/count_rows, which the gate leaves; with `--rust` it is that of rust/programs.
 # The status is 0 where every run is as wanted.
 set -eu
 cd "$(dirname "$0")/.."

@@ -1,6 +1,6 @@
 #!/usr/bin/env bash
-# Makes both Rust crates with the repository's own tests, compares them with those in rust/, which have none of these, builds them in each set of features with no warning, lints and
-# documents them with none, runs their tests and doc tests, and has the second stand beside the original.
+# Makes the Rust crates with the repository's own tests, compares them with those in rust/, which have none of these, builds them in each set of features with no warning, lints and
+# documents them with none, runs their tests and doc tests and the programs, and has `fallible-itertools` stand beside the original.
 set -eu
 cd "$(dirname "$0")/.."
 if ! command -v cargo > /dev/null || ! command -v rustfmt > /dev/null; then
@@ -38,13 +38,18 @@ for crate in "${crates[@]}"; do
         quietly cargo build --offline --manifest-path "$crate" --no-default-features --features "$features"
     done
 done
-both=(--offline --manifest-path "$folder/out/Cargo.toml" --all-features)
+for crate in program-io fallible-json fallible-pg; do
+    quietly cargo build --offline --manifest-path "$folder/out/$crate/Cargo.toml" --no-default-features
+done
+all=(--offline --manifest-path "$folder/out/Cargo.toml" --all-features)
 quietly cargo fmt --all --check --manifest-path "$folder/out/Cargo.toml"
-quietly cargo clippy "${both[@]}" --all-targets
-quietly cargo doc "${both[@]}" --no-deps
-quietly cargo test "${both[@]}"
+quietly cargo clippy "${all[@]}" --all-targets
+quietly cargo doc "${all[@]}" --no-deps
+quietly cargo test "${all[@]}"
 quietly cargo package --offline --no-verify --allow-dirty --quiet --manifest-path "${crates[0]}"
+quietly tools/word_runs --in "$CARGO_TARGET_DIR/debug"
 awk '/^test result/ { n += $4 } END { print "rust: " n " tests and doc tests pass" }' "$folder/log"
+grep '^word runs' "$folder/log"
 tail -n 3 "$folder/said" | head -n 2
 # Status 3: the originals couldn't be fetched, which it has said.
 tools/rust_beside --quick "$folder/out" || [ $? = 3 ]

@@ -1,7 +1,8 @@
 #!/usr/bin/env bash
 # Runs the programs sum_table and sum_groups over good and bad input and over devices that refuse, and compares their
 # status and what they write with what is wanted. It proves and builds each first, where that is not done yet, or
-# runs those of `--program FILE`, as crates/sum_table/out/sum_table, which the gate leaves; the word may come for each.
+# runs those of `--program FILE`, as crates/sum_table/out/sum_table, which the gate leaves; the word may come for each. With
+# `--rust` they are those of rust/programs.
 # The status is 0 where every run is as wanted.
 set -eu
 cd "$(dirname "$0")/.."

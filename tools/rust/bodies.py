@@ -79,10 +79,11 @@ def put(body, text):
     text.replace(beside[-1].end, beside[-1].end, "\n\n    " + new)
 
 
-def to_rust(crate, files):
-    """Puts each body into its file. It returns how each differs and why, by path and name."""
+def to_rust(crate, files, folder=""):
+    """Puts each body into its file: of a crate, or of one of the folders that those of a crate are in. It returns how each
+    differs and why, by path and name."""
     why = {}
-    for body in every(crate):
+    for body in every("%s/%s" % (crate, folder) if folder else crate):
         if body.path not in files:
             raise Refused("%s:1: bodies: there is no %s" % (body.place, body.path))
         put(body, files[body.path])

@@ -44,6 +44,8 @@ REASONS = [
     (r"cmp_by\.rs", r"compare_by", "changed", "`number_of_either` hands on the two that it got"),
     (r"fallible_itertools_adapters/peeking_take_while\.rs", r"none_held_or_accepts", "left out",
      "`next_accepted` of `Peekable` goes by `peek`"),
+    (r"writing\.rs", r"WriteText for W\.write_text", "changed", "std's `write_fmt` takes what `format_args!` makes"),
+    (r"main\.rs", r"main", "new", "it calls the proved `main`, which is `started`"),
 ]
 
 

@@ -30,10 +30,11 @@ def paragraph(line, at):
 
 
 class Docs:
-    """The comments of the crates, and how many doc tests they have. `shown` are the files of examples."""
+    """The comments of the crates, and how many doc tests they have. `shown` are the files of examples; where memory may be refused,
+    all but what is of proofs stays."""
 
-    def __init__(self, shown):
-        self.shown, self.tests = shown, 0
+    def __init__(self, shown, refusing=False):
+        self.shown, self.refusing, self.tests = shown, refusing, 0
 
     def comment(self, name, lines, clauses, at):
         """A comment of an item, rewritten. `clauses` are those of a public function, and `at` says where a line of it stands."""
@@ -45,7 +46,7 @@ class Docs:
                 self.tests += 1
                 k = end
             elif lines[k]:
-                said = paragraph(lines[k], at(k))
+                said = paragraph(lines[k], at(k)) if not self.refusing else "" if lines[k].startswith("Proof: ") else lines[k]
                 blocks += [[said]] if said else []
             k += 1
         if clauses:

@@ -22,8 +22,6 @@ SUITES = {
 }
 # What the proved tests of each Rust crate need.
 FEATURES = {"fallible-iterator": "alloc", "fallible-itertools": "std"}
-# The crates of which each example of `fallible-iterator` has modules.
-EXAMPLES = {"pg_rows": ("fallible_pg", "program_io")}
 # Where they are. The files of those in `tests` end in .rt.txt.
 FOLDERS = ("crates", "tests")
 # Modules that are left out: a program's words and files come by Rattle's own runtime, tallies and values of test_rows stand on fallible_itertools, and fallible_json fails where memory is refused.
@@ -117,12 +115,6 @@ MAIN = """//! The tests of the proved libraries, erased in the same way.
 
 %s
 """ % tests.FAIL
-
-
-def examples(modules):
-    """The modules that examples have, by path."""
-    return {"examples/%s/%s" % (name, path): s for name, crates in EXAMPLES.items() for at, s in modules.items()
-            for path in [at.removeprefix("tests/proved/")] if re.split(r"[/.]", path)[0] in crates}
 
 
 def module(path, blocks, count):

@@ -20,6 +20,10 @@ LOADER.exec_module(TO_RUST)
 TO_RUST.formatted = lambda files: files
 CORE = "crates/fallible_core/src/"
 
+import features
+import refusing
+from source import Text
+
 
 class Refusals(unittest.TestCase):
     def setUp(self):
@@ -196,6 +200,31 @@ class Refusals(unittest.TestCase):
         self.refused("holds fallible-iterator")
         self.assertEqual(list(elsewhere.iterdir()), [])
 
+
+class Programs(unittest.TestCase):
+    """What the crates of programs are made by."""
+
+    def test_no_allocator_is_passed_and_calls_that_may_be_refused_have_their_names(self):
+        text = Text("of.rs", (
+            "use std::alloc::{AllocError, Global};\n\nstruct Held {\n    alloc: Global,\n    bytes: Vec<u8>,\n    own: Own,\n}\n\nimpl Own {\n    fn push(&mut self, byte: u8) {}\n}\n\n"
+            "fn hold(alloc: Global, held: &mut Held) -> Result<(), AllocError> {\n    held.bytes.push(1)?;\n    held.own.push(2);\n"
+            "    let mut made = Vec::from_slice(alloc, b\"\")?;\n    made.push(3)?;\n    more(alloc, &mut made)\n}\n"))
+        refusing.to_rust({"of.rs": text}, "crate")
+        for line in ("held.bytes.try_push(1)?;", "held.own.push(2);", "made.try_push(3)?;", "more(&mut made)", "fn hold(held: &mut Held)",
+                     "use crate::memory::{AllocError, TryVec};"):
+            self.assertIn(line, text.s)
+        self.assertNotIn("alloc:", text.s)
+
+    def test_what_needs_std_stands_behind_its_feature_with_all_that_names_it(self):
+        texts = {"lib.rs": Text("lib.rs", "mod a;\n\npub use a::{below, told};\n"), "a.rs": Text("a.rs", (
+            "use std::io;\n\nfn write(it: &mut dyn io::Write) {}\n\npub fn told(it: u8) {\n    write(&mut it);\n}\n\n"
+            "pub fn below() {}\n\npub struct It;\n\nimpl It {\n    pub fn one(&self) {}\n\n    pub fn two(&self) {\n        told(1);\n    }\n}\n"))}
+        features.Crate(texts, set()).mark()
+        cfg = '#[cfg(feature = "std")]'
+        self.assertIn("pub use a::below;\n%s\npub use a::told;" % cfg, texts["lib.rs"].s)
+        for line in ("use std::io;", "fn write", "pub fn told", "    pub fn two"):
+            self.assertRegex(texts["a.rs"].s, r"%s\n *%s" % (re.escape(cfg), re.escape(line.strip())))
+        self.assertEqual(texts["a.rs"].s.count(cfg), 4)
 
 if __name__ == "__main__":
     unittest.main()

@@ -1,5 +1,5 @@
 //! Ctrl-C asks the server to cancel the query.
-use crate::fallible_pg::{cancel_message, CancelKey};
+use fallible_pg::{cancel_message, CancelKey};
 use crate::place::Place;
 use crate::Socket;
 use std::io::{Read, Write};

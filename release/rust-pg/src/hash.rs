@@ -1,5 +1,5 @@
 //! SHA-256, HMAC and PBKDF2, by the crates `sha2`, `hmac` and `pbkdf2`.
-use crate::fallible_pg::Hash;
+use fallible_pg::Hash;
 use hmac::{Hmac, Mac};
 use sha2::{Digest, Sha256};
 

@@ -6,9 +6,9 @@
 //!
 //! It ends with status 1 if the server refuses the session or a statement, 2 if a read fails, there is no connection or no password, or the words are others, 4 if a write fails, 5 at damage, 6 if the bytes are cut, 7 at COPY and another proof of identity, and 8 if the server doesn't prove that it knows the password.
 //!
-//! Messages, rows, the words of SCRAM and when the server's proof is accepted are the erased code of the proved `fallible_pg`. The rest is written by hand.
-use erased::{fallible_pg, program_io};
+//! Messages, rows, the words of SCRAM and when the server's proof is accepted are those of the crate `fallible-pg`, whose bodies are proved ones. The rest is written by hand.
 use fallible_iterator::FallibleIterator;
+use fallible_pg::program_io;
 use fallible_pg::*;
 use hash::Sha;
 use place::Place;
@@ -24,17 +24,6 @@ use std::process::ExitCode;
 mod cancel;
 mod hash;
 mod place;
-
-#[path = "../../../rust/fallible-iterator/examples/pg_rows"]
-#[allow(dead_code, unused, clippy::all)]
-mod erased {
-    pub mod fallible_pg;
-    pub mod program_io;
-}
-
-/// What the proved code's tests fail with.
-#[allow(dead_code)]
-pub struct Fail;
 
 /// A connection to the server.
 pub enum Socket {

@@ -1,7 +1,0 @@
-use crate::Fail;
-use fallible_iterator::memory::AllocError;
-
-/// The number below 2 ^ 64 that a text writes in decimal digits, if it writes one. A plus may stand first.
-pub fn number_of(text: &str) -> Option<u64> {
-    text.parse::<u64>().ok()
-}

@@ -1,0 +1,102 @@
+//! The cells of a row.
+
+use crate::fault::Damage;
+use crate::numbers::{u16_at, u32_at};
+use fallible_iterator::FallibleIterator;
+
+/// The cells of the message of a row: the bytes of each, or `None` at a NULL. It fails with `Row` where a cell doesn't fit the message, and at bytes after the last cell; then it ends. Those of a row that `Rows` yields never fail.
+pub struct Cells<'a> {
+    bytes: &'a [u8],
+    left: u16,
+}
+
+impl<'a> Cells<'a> {
+    // The cells of a message.
+    pub(crate) fn new(message: &'a [u8]) -> Cells<'a> {
+        if message.len() < 7 {
+            return Cells {
+                bytes: message,
+                left: 0,
+            };
+        }
+        Cells {
+            bytes: after(message, 7),
+            left: u16_at(message, 5),
+        }
+    }
+}
+
+impl Cells<'_> {
+    // How many are left at most.
+    pub(crate) fn left(&self) -> u16 {
+        self.left
+    }
+}
+
+// The bytes after so many.
+pub(crate) fn after(bytes: &[u8], count: usize) -> &[u8] {
+    &bytes[count..]
+}
+
+// The first cell, and what follows it.
+fn first_cell(bytes: &[u8]) -> Option<(Option<&[u8]>, &[u8])> {
+    if bytes.len() < 4 {
+        return None;
+    }
+    let length = u32_at(bytes, 0);
+    let rest = after(bytes, 4);
+    if length == u32::MAX {
+        return Some((None, rest));
+    }
+    let size = length as usize;
+    if rest.len() < size {
+        return None;
+    }
+    Some((Some(&rest[..size]), after(rest, size)))
+}
+
+impl<'a> FallibleIterator for Cells<'a> {
+    type Item = Option<&'a [u8]>;
+
+    type Error = Damage;
+
+    fn next(&mut self) -> Result<Option<Option<&'a [u8]>>, Damage> {
+        if self.left == 0 {
+            if self.bytes.is_empty() {
+                return Ok(None);
+            }
+            self.bytes = &[];
+            return Err(Damage::Row);
+        }
+        match first_cell(self.bytes) {
+            Some((cell, rest)) => {
+                self.left -= 1;
+                self.bytes = rest;
+                Ok(Some(cell))
+            }
+            None => {
+                self.left = 0;
+                self.bytes = &[];
+                Err(Damage::Row)
+            }
+        }
+    }
+
+    fn size_hint(&self) -> (usize, Option<usize>) {
+        (0, None)
+    }
+}
+
+// Whether the cells of a message fill it.
+pub(crate) fn is_row(message: &[u8]) -> bool {
+    let mut cells = Cells::new(message);
+    let count = cells.left;
+    for _ in 0..count {
+        match cells.next() {
+            Ok(Some(_)) => {}
+            Ok(None) => return true,
+            Err(_) => return false,
+        }
+    }
+    cells.bytes.is_empty()
+}
