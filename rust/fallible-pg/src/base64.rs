@@ -62,47 +62,49 @@ pub(crate) fn base64(bytes: &[u8]) -> Result<Vec<u8>, Unsent> {
     Ok(text)
 }
 
-// The number of a symbol; 0 of what is none.
+// The number of a symbol; 63 of what is none.
 fn number_of(symbol: u8) -> u8 {
-    match symbol {
-        b'A'..=b'Z' => symbol - 65,
-        b'a'..=b'z' => symbol - 71,
-        b'0'..=b'9' => symbol + 4,
-        b'+' => 62,
-        b'/' => 63,
-        _ => 0,
+    if 65 <= symbol && symbol < 91 {
+        symbol - 65
+    } else if 97 <= symbol && symbol < 123 {
+        symbol - 71
+    } else if 48 <= symbol && symbol < 58 {
+        symbol + 4
+    } else if symbol == b'+' {
+        62
+    } else {
+        63
     }
 }
 
-// The three bytes that four symbols may stand for.
-fn bytes_of(a: u8, b: u8, c: u8, d: u8) -> [u8; 3] {
-    let (a, b, c, d) = (number_of(a), number_of(b), number_of(c), number_of(d));
-    [a * 4 + b / 16, b % 16 * 16 + c / 4, c % 4 * 64 + d]
-}
-
-// How many equals signs stand at the end of a text; 2 at most.
-fn signs_at_end(text: &[u8]) -> usize {
-    match text {
-        [.., b'=', b'='] => 2,
-        [.., b'='] => 1,
-        _ => 0,
+// Adds the bytes that four symbols may stand for: one where two equals signs end them, two where one does.
+fn push_bytes(bytes: &mut Vec<u8>, a: u8, b: u8, c: u8, d: u8) -> Result<(), Unsent> {
+    let first = number_of(a) * 4 + number_of(b) / 16;
+    let second = number_of(b) % 16 * 16 + number_of(c) / 4;
+    let third = number_of(c) % 4 * 64 + number_of(d);
+    if c == b'=' {
+        bytes.try_extend_from_slice(&[first])?;
+    } else if d == b'=' {
+        bytes.try_extend_from_slice(&[first, second])?;
+    } else {
+        bytes.try_extend_from_slice(&[first, second, third])?;
     }
+    Ok(())
 }
 
 // The bytes that a text may write in base64. Whether it does is for the caller to see.
 fn read_loosely(text: &[u8]) -> Result<Vec<u8>, Unsent> {
     let mut bytes = Vec::new();
     for group in 0..text.len() / 4 {
-        let at = 4 * group;
-        bytes.try_extend_from_slice(&bytes_of(
-            text[at],
-            text[at + 1],
-            text[at + 2],
-            text[at + 3],
-        ))?;
+        let place = 4 * group;
+        push_bytes(
+            &mut bytes,
+            text[place],
+            text[place + 1],
+            text[place + 2],
+            text[place + 3],
+        )?;
     }
-    let kept = bytes.len().saturating_sub(signs_at_end(text));
-    bytes.truncate(kept);
     Ok(bytes)
 }
 

@@ -2,6 +2,7 @@
 
 use crate::base64::{base64, from_base64};
 use crate::sending::{Unsent, message_of};
+use crate::strings::before;
 use alloc::vec::Vec;
 use core::str::from_utf8;
 use program_io::memory::TryVec;
@@ -86,16 +87,6 @@ struct Question<'a> {
     digits: &'a [u8],
 }
 
-// The bytes before the first comma.
-fn before_comma(bytes: &[u8]) -> &[u8] {
-    for place in 0..bytes.len() {
-        if bytes[place] == b',' {
-            return &bytes[..place];
-        }
-    }
-    bytes
-}
-
 // The bytes after so many; none where there are fewer.
 fn beyond(bytes: &[u8], count: usize) -> &[u8] {
     if count <= bytes.len() {
@@ -105,12 +96,13 @@ fn beyond(bytes: &[u8], count: usize) -> &[u8] {
     }
 }
 
-// The parts that a text may have which a server asks. Whether it has these is for the caller to see.
+// The parts that a text has, if a server asks well by it. Whether it does is for the caller to see.
 fn parts_of(asked: &[u8]) -> Question<'_> {
-    let nonce = before_comma(beyond(asked, 2));
-    let rest = beyond(beyond(asked, 2), nonce.len());
-    let salt = before_comma(beyond(rest, 3));
-    let digits = beyond(beyond(beyond(rest, 3), salt.len()), 3);
+    let words = beyond(asked, 2);
+    let nonce = before(b',', words);
+    let salted = beyond(beyond(words, nonce.len()), 3);
+    let salt = before(b',', salted);
+    let digits = beyond(beyond(salted, salt.len()), 3);
     Question {
         nonce,
         salt,
@@ -186,15 +178,17 @@ pub struct Answer {
     wanted: Vec<u8>,
 }
 
-/// The answer to what a server asks, after the client sent a text of its own first; `None` where that isn't asked as it must be, or doesn't begin with the client's text. It never fails with `Long`.
+/// The answer to what a server asks, after the client sent a text of its own first; `None` only where the server doesn't ask well: in other words, with a number of rounds that is none, or by a text that doesn't begin with the client's or has a comma. It never fails with `Long`.
 ///
 /// <details><summary>Contract</summary>
 ///
 /// As it is proved, in [these words](crate::words):
 ///
 /// ```text
-/// ensures { IfOk result (λ found. IfSome found (λ answer. Answers H.hash H.hmac H.stretch
-///     password.now own.now asked.now (answer_says answer) (answer_wants answer))) }
+/// ensures { IfOk result (λ found. MatchOption found
+///     ((nonce salt digits : List ℕ) (rounds : ℕ) → ¬ (Asks own.now asked.now nonce salt digits rounds))
+///     (λ answer. Answers H.hash H.hmac H.stretch password.now own.now asked.now
+///     (answer_says answer) (answer_wants answer))) }
 /// ```
 /// </details>
 pub fn answer_of<H: Hash>(

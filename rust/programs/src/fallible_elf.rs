@@ -1,6 +1,8 @@
 //! The section headers and the address ranges of an ELF file of 64 bits whose numbers begin with their least byte.
 
+mod digits;
 pub mod fault;
+pub mod finding;
 pub mod header;
 pub mod lines;
 pub mod names;

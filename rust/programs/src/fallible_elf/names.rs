@@ -2,6 +2,8 @@
 
 use crate::fallible_elf::fault::{Damage, ElfFault};
 use crate::fallible_elf::section::Section;
+use crate::fallible_elf::sections::sections_of;
+use fallible_iterator::FallibleIterator;
 
 // How many bytes stand before the first 0.
 fn length_of(bytes: &[u8]) -> usize {
@@ -37,15 +39,22 @@ fn place_or_0(place: Option<usize>) -> usize {
     }
 }
 
-/// Whether the names of a file's sections have together at most four times as many bytes as the file. The fault is at the first byte of the first name with which they have more.
-pub fn check_names(file: &[u8], sections: &[Section]) -> Result<(), ElfFault> {
-    let mut room = 4 * file.len() as u128;
-    for section in sections {
-        let length = name_or_none(file, section.name).len() as u128;
-        if room < length {
-            return Err(ElfFault::at(place_or_0(section.name), Damage::NamesTooLong));
-        }
-        room -= length;
+// The room that is left after a section's name, or the fault where it has too little.
+fn room_after(file: &[u8], room: u128, section: &Section) -> Result<u128, ElfFault> {
+    let length = name_or_none(file, section.name).len() as u128;
+    if room < length {
+        return Err(ElfFault::at(place_or_0(section.name), Damage::NamesTooLong));
     }
-    Ok(())
+    Ok(room - length)
+}
+
+/// Whether the names of a file's sections have together at most four times as many bytes as the file. The fault is at the first byte of the first name with which they have more. Of a file whose headers have a fault no clause says which one it returns.
+pub fn check_names(file: &[u8]) -> Result<(), ElfFault> {
+    let room = sections_of(file).fold(4 * file.len() as u128, |room: u128, section: Section| {
+        room_after(file, room, &section)
+    });
+    match room {
+        Ok(_) => Ok(()),
+        Err(fault) => Err(fault),
+    }
 }

@@ -89,3 +89,12 @@ pub fn all_ranges(file: &[u8]) -> Result<Vec<Range>, Fault<ElfFault>> {
     let joined = sets.flat_map(|set| Ok(SetIn { file, set }));
     joined.try_collect()
 }
+
+/// How many ranges the sets of a file have, or 2 ^ 64 - 1 where there are more; or its first fault.
+pub fn count_ranges(file: &[u8]) -> Result<usize, ElfFault> {
+    let sets = sections_of(file)
+        .filter(|section| Ok(has_ranges(file, section)))
+        .flat_map(|section| Ok(SectionIn { file, section }));
+    let joined = sets.flat_map(|set| Ok(SetIn { file, set }));
+    joined.fold(0, |count: usize, _: Range| Ok(count.saturating_add(1)))
+}

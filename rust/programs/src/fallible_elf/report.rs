@@ -18,14 +18,16 @@ pub fn run_fault(fault: Fault<ElfFault>) -> RunFault<ElfFault> {
     }
 }
 
-// Writes the tables of a file.
-fn write_tables<W: WriteText>(file: &[u8], tables: &Tables, writer: &mut W) -> io::Result<()> {
-    write_sections(file, tables.sections.as_slice(), writer)?;
-    if let Ok(found) = &tables.found {
-        write_sets(found.sets.as_slice(), writer)?;
-        write_ranges(found.ranges.as_slice(), writer)?;
+// Writes the report of a file.
+fn write_tables<W: WriteText>(file: &[u8], tables: Tables, writer: &mut W) -> io::Result<()> {
+    write_sections(file, tables.sections, writer)?;
+    match tables.found {
+        Ok(found) => {
+            write_sets(file, found.sets, writer)?;
+            write_ranges(file, found.ranges, writer)
+        }
+        Err(_) => Ok(()),
     }
-    Ok(())
 }
 
 /// Writes the sections of a file to `writer`, and then its sets and their ranges. At a fault of a section nothing is written, and at one of a set or a range the sections alone. It fails with `Input` and the file's first fault, with `Memory` if an allocation fails, before anything is written, and with `Write` where the writer fails.
@@ -34,7 +36,7 @@ pub fn report<W: WriteText>(file: &[u8], writer: &mut W) -> Result<(), RunFault<
         Ok(tables) => tables,
         Err(fault) => return Err(run_fault(fault)),
     };
-    if write_tables(file, &tables, writer).is_err() {
+    if write_tables(file, tables, writer).is_err() {
         return Err(RunFault::Write);
     }
     match tables.found {

@@ -154,3 +154,11 @@ pub fn all_sets(file: &[u8]) -> Result<Vec<Set>, Fault<ElfFault>> {
         .flat_map(|section| Ok(SectionIn { file, section }));
     joined.try_collect()
 }
+
+/// How many sets the sections of a file have that have address ranges, or 2 ^ 64 - 1 where there are more; or its first fault.
+pub fn count_sets(file: &[u8]) -> Result<usize, ElfFault> {
+    let joined = sections_of(file)
+        .filter(|section| Ok(has_ranges(file, section)))
+        .flat_map(|section| Ok(SectionIn { file, section }));
+    joined.fold(0, |count: usize, _: Set| Ok(count.saturating_add(1)))
+}
