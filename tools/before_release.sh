@@ -27,7 +27,7 @@ json|tools/json_runs|a minute, once json_tokens is proved
 memory|tools/refused_memory.sh|7 minutes
 speed|tools/speed.sh|the proof of fallible_speed, and then minutes
 elf_speed|tools/elf_speed|the proof of fallible_elf and elf_walk, and then minutes; wants cargo and valgrind
-program_speed|tools/program_speed.sh|3 minutes; wants count_rows, sum_table, sum_groups and pg_rows proved, cargo, valgrind and GNU time
+program_speed|tools/program_speed.sh|5 minutes; wants count_rows, sum_table, sum_groups, pg_rows and json_tokens proved, cargo, valgrind, GNU time, jq, g++ and apt
 rust_speed|tools/rust_bench.sh|3 minutes; wants valgrind and apt
 beside|tools/rust_beside|3 minutes; wants cargo and apt
 clients|tools/rust_clients|a quarter of an hour and more; wants cargo, PostgreSQL, SQLite, libclang and apt

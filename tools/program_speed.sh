@@ -1,14 +1,15 @@
 #!/usr/bin/env bash
-# Measures the programs count_rows, sum_table, sum_groups and pg_rows beside the loops by hand of release/program_loops, and
-# compares what they print.
+# Measures the programs count_rows, sum_table, sum_groups, pg_rows and json_tokens beside the loops by hand of
+# release/program_loops, and compares what they print. json_tokens is measured beside `jq -c` and simdjson too.
 #
-#     tools/program_speed.sh [RUNS]
+#     tools/program_speed.sh [RUNS] [NAME..]
 #
-# It builds the loops by cargo. The programs are crates/NAME/out/NAME, which `rt run <stdin` in crates/NAME proves and builds.
+# With names it measures these programs alone. It builds the loops by cargo, and what parses and prints by simdjson of Debian's
+# packages, fetched by apt into a folder of its own. The programs are crates/NAME/out/NAME, which `rt run <stdin` in crates/NAME proves and builds.
 # One that is not there is named, and its loops are measured alone. The input is made anew, the same in each run.
 #
 # It prints a table for each program. The instructions are those of 100,000 rows or records less those of none, by valgrind's
-# callgrind. A column by the number of rows has the least processor time of RUNS runs, else of 20, and the memory of one more
+# callgrind; those of json_tokens are of 10,000 rows. A column by the number of rows has the least processor time of RUNS runs, else of 20, and the memory of one more
 # run, its maximum resident set by GNU time. That of no rows is what a process takes to start and to end.
 #
 # The status is 1 where an output differs from the program's or from crates/NAME/stdout, and otherwise 2 where a program is
@@ -16,11 +17,13 @@
 set -eu
 repository=$(cd "$(dirname "$0")/.." && pwd)
 runs=${1:-20}
-sizes=(0 1000 10000 100000 1000000 2000000)
+names=("${@:2}")
+[ ${#names[@]} -gt 0 ] || names=(count_rows sum_table sum_groups pg_rows json_tokens)
+all_sizes=(0 1000 10000 100000 1000000 2000000)
 counted=100000
 work=$(mktemp -d)
 trap 'rm -rf "$work"' EXIT
-for tool in cargo valgrind python3 /usr/bin/time; do
+for tool in cargo valgrind python3 jq g++ /usr/bin/time; do
     command -v "$tool" >/dev/null || { echo "program speed: $tool is not here" >&2; exit 2; }
 done
 cp -r "$repository/release/program_loops" "$work/loops"
@@ -34,10 +37,30 @@ loops_of() {
     esac
 }
 
+# Builds $work/simdjson, which parses and prints a text by simdjson.
+build_simdjson() {
+    mkdir "$work/packages" "$work/unpacked"
+    python3 - "$repository/tools" "$work" <<'END'
+import pathlib, sys
+
+sys.dont_write_bytecode = True
+sys.path.insert(0, sys.argv[1])
+import debian
+
+work = pathlib.Path(sys.argv[2])
+debian.own_apt(work, "bookworm")
+debian.told(["apt-get", "update"])
+debian.unpacked(["libsimdjson-dev", "libsimdjson14"], work / "packages", work / "unpacked")
+END
+    local libraries=$work/unpacked/usr/lib/$(gcc -print-multiarch)
+    g++ -O3 -std=c++17 -I "$work/unpacked/usr/include" "$repository/release/program_loops/json_simdjson.cpp" \
+        -L "$libraries" -lsimdjson -Wl,-rpath,"$libraries" -o "$work/simdjson"
+}
+
 # Makes the inputs of a program, $work/input.N of N rows or records, and $work/input.digits of rows of 20 digits.
 make_inputs() {
     python3 - "$1" "${sizes[-1]}" "$counted" "$work/input" "${sizes[@]}" <<'END'
-import array, random, struct, sys
+import array, json, random, struct, sys
 
 name, count, counted, path = sys.argv[1], int(sys.argv[2]), int(sys.argv[3]), sys.argv[4]
 chance = random.Random(7)
@@ -50,7 +73,7 @@ with open(f"{path}.{count}", "wb") as it:
         if sys.byteorder == "big":
             table.byteswap()
         table.tofile(it)
-    elif name != "pg_rows":
+    elif name not in ("pg_rows", "json_tokens"):
         keys = sorted(chance.choices(range(count // 3), k=count))
         it.write("".join(f"{key},{amount}\n" for key, amount in zip(keys, chance.choices(range(10**6), k=count))).encode())
 # What a server sends of so many rows of four cells, the last of which is NULL in each tenth.
@@ -61,11 +84,20 @@ for size in map(int, sys.argv[5:]) if name == "pg_rows" else ():
             body = b"\0\4" + b"".join(struct.pack(">I", len(cell)) + cell for cell in cells) + b"\xff" * 4 * (row % 10 == 0)
             it.write(b"D" + struct.pack(">I", len(body) + 4) + body)
         it.write(b"C\0\0\0\x04Z\0\0\0\x05I")
+# An array of so many objects, indented; its numbers are printed alike by each of the programs.
+for size in map(int, sys.argv[5:]) if name == "json_tokens" else ():
+    with open(f"{path}.{size}", "w", encoding="utf-8") as it:
+        it.write("[")
+        for row in range(size):
+            values = [chance.randrange(10**6) + 0.25, True, None]
+            text = json.dumps({"id": row, "name": f"row é {row * 7}", "values": values}, indent=2, ensure_ascii=False)
+            it.write("," * (row > 0) + "\n  " + text.replace("\n", "\n  "))
+        it.write("\n]\n")
 with open(f"{path}.digits", "w") as it:
     it.write("".join(f"{chance.randrange(10**19, 2**64)}\n" for _ in range(counted)))
 END
     local size
-    [ "$1" != pg_rows ] || return 0
+    [ "$1" != pg_rows ] && [ "$1" != json_tokens ] || return 0
     for size in "${sizes[@]:0:${#sizes[@]}-1}"; do
         if [ "$1" = sum_table ]; then
             head -c $((size * 8)) "$work/input.${sizes[-1]}" >"$work/input.$size"
@@ -75,35 +107,39 @@ END
     done
 }
 
-# Runs the executable $1 over the input $2, and compares what it prints with the file $3.
+# Runs the command $1 over the input $2, and compares what it prints with the file $3.
 compare() {
-    "$1" <"$2" >"$work/printed" || true
+    local words
+    read -ra words <<<"$1"
+    "${words[@]}" <"$2" >"$work/printed" || true
     cmp -s "$work/printed" "$3" && return
     echo "$name: ${1##*/} prints something else over $(basename "$2")"
     differs=1
 }
 
-# The instructions of the executable $1 over the input $2, for each of $3 bytes or records.
+# The instructions of the command $1 over the input $2, for each of $3 bytes or records.
 instructions() {
-    local input all none
+    local input all none words
+    read -ra words <<<"$1"
     for input in "$2" "$work/input.0"; do
-        valgrind --tool=callgrind --callgrind-out-file=/dev/null "$1" <"$input" 2>&1 >/dev/null | awk '/Collected/ { print $4 }'
+        valgrind --tool=callgrind --callgrind-out-file=/dev/null "${words[@]}" <"$input" 2>&1 >/dev/null | awk '/Collected/ { print $4 }'
     done | paste -s -d' ' | {
         read -r all none
         awk -v all="$all" -v none="$none" -v count="$3" 'BEGIN { printf "%.1f\n", (all - none) / count }'
     }
 }
 
-# The least processor time of each executable over the input $1, in milliseconds, one a line. They take turns.
+# The least processor time of each command over the input $1, in milliseconds, one a line. They take turns.
 times() {
     python3 - "$runs" "$@" <<'END'
-import os, sys
+import os, shutil, sys
 
 runs, path, executables = int(sys.argv[1]), sys.argv[2], sys.argv[3:]
 least = dict.fromkeys(executables, float("inf"))
 for executable in executables * runs:
     files = [(os.POSIX_SPAWN_OPEN, 0, path, os.O_RDONLY, 0), (os.POSIX_SPAWN_OPEN, 1, os.devnull, os.O_WRONLY, 0)]
-    _, status, usage = os.wait4(os.posix_spawn(executable, [executable], {}, file_actions=files), 0)
+    words = executable.split()
+    _, status, usage = os.wait4(os.posix_spawn(shutil.which(words[0]), words, {}, file_actions=files), 0)
     if status != 0:
         sys.exit(f"{executable} ended with {os.waitstatus_to_exitcode(status)} over {path}")
     least[executable] = min(least[executable], usage.ru_utime + usage.ru_stime)
@@ -111,9 +147,11 @@ print("\n".join(f"{1000 * seconds:.1f}" for seconds in least.values()))
 END
 }
 
-# The most memory that the executable $1 had over the input $2, in MB.
+# The most memory that the command $1 had over the input $2, in MB.
 memory() {
-    /usr/bin/time -f %M -o "$work/memory" "$1" <"$2" >/dev/null
+    local words
+    read -ra words <<<"$1"
+    /usr/bin/time -f %M -o "$work/memory" "${words[@]}" <"$2" >/dev/null
     awk '{ printf "%.1f\n", $1 * 1.024 / 1000 }' "$work/memory"
 }
 
@@ -123,6 +161,7 @@ print_table() {
     [ "$name" = sum_table ] || each=row
     head="| \`$name\` | Instructions a $each |"
     [ "$name" != count_rows ] || head="| \`$name\` | Instructions a byte | In rows of 20 digits |"
+    [ "$name" != json_tokens ] || head="| \`$name\` | Instructions a byte |"
     for size in "${sizes[@]}"; do
         head="$head $(echo "$size" | sed ':a; s/\([0-9]\)\([0-9]\{3\}\)\($\|,\)/\1,\2\3/; ta') |"
         times "$work/input.$size" "${executables[@]}" >"$work/times.$size"
@@ -136,6 +175,8 @@ print_table() {
         if [ "$name" = count_rows ]; then
             line="$line $(instructions "${executables[at]}" "$work/input.$counted" "$(stat -c %s "$work/input.$counted")") |"
             line="$line $(instructions "${executables[at]}" "$work/input.digits" "$(stat -c %s "$work/input.digits")") |"
+        elif [ "$name" = json_tokens ]; then
+            line="$line $(instructions "${executables[at]}" "$work/input.10000" "$(stat -c %s "$work/input.10000")") |"
         else
             line="$line $(instructions "${executables[at]}" "$work/input.$counted" "$counted") |"
         fi
@@ -149,7 +190,10 @@ print_table() {
 missing=()
 differs=0
 rustc --version
-for name in count_rows sum_table sum_groups pg_rows; do
+for name in "${names[@]}"; do
+    # The texts of json_tokens are up to 120 MB, which `jq` takes seconds for.
+    sizes=("${all_sizes[@]}")
+    [ "$name" != json_tokens ] || sizes=("${all_sizes[@]:0:5}")
     make_inputs "$name"
     crate=$repository/crates/$name
     program=$crate/out/$name
@@ -157,7 +201,8 @@ for name in count_rows sum_table sum_groups pg_rows; do
     executables=()
     if [ -x "$program" ]; then
         titles+=("the program")
-        executables+=("$program")
+        ln -sfn "$program" "$work/$name"
+        executables+=("$work/$name")
     else
         missing+=("crates/$name/out/$name")
     fi
@@ -168,6 +213,12 @@ for name in count_rows sum_table sum_groups pg_rows; do
     for executable in "${executables[@]}"; do
         compare "$executable" "$crate/stdin" "$crate/stdout"
     done
+    # These two spell numbers and escapes in their own way, so they are compared over the inputs alone.
+    if [ "$name" = json_tokens ]; then
+        build_simdjson
+        titles+=("\`jq -c\`" "simdjson")
+        executables+=("jq -c ." "$work/simdjson")
+    fi
     for size in "${sizes[@]}" digits; do
         [ "$size" != digits ] || [ "$name" = count_rows ] || continue
         "${executables[0]}" <"$work/input.$size" >"$work/wanted"

@@ -14,5 +14,6 @@ mod SameTreeLemmas
 mod SpelledJsonLemmas
 mod SpelledLemmas
 mod TextLemmas
+mod TextTokensLemmas
 mod TreeLemmas
 mod WantedLemmas

@@ -113,10 +113,13 @@ pub(crate) struct Nesting {
 }
 
 impl Nesting {
-    fn take(mut self, step: Step) -> Result<Nesting, Stop>
+    // A step more. One that may not come leaves it as it was.
+    fn take(&mut self, step: Step) -> Result<(), Stop>
         ensures state { MatchResult result
-            (λ n. taken (reverse self.containers.items) step ≡ Some (reverse n.containers.items, n.expects))
-            (λ e. e ≢ Stop.Memory → taken (reverse self.containers.items) step ≡ None) }
+            (λ _. taken (reverse self.old.containers.items) step
+            ≡ Some (reverse self.new.containers.items, self.new.expects))
+            (λ e. e ≢ Stop.Memory → taken (reverse self.old.containers.items) step ≡ None) }
+        ensures unchanged { result ≡ Err Stop.Unexpected → self.new ≡ self.old }
         ensures memory { result ≡ Err Stop.Memory
             → (container : Container) × (step ≡ Step.Opens container) }
     {
@@ -130,14 +133,12 @@ impl Nesting {
                 self.expects = first_in(container);
             }
             Step::Closes(container) => {
-                let Some(innermost) = self.containers.pop() else {
-                    return Err(Stop::Unexpected);
-                };
-                match (innermost, container) {
-                    (Container::Array, Container::Array) => {}
-                    (Container::Object, Container::Object) => {}
+                match (self.containers.last(), container) {
+                    (Some(Container::Array), Container::Array) => {}
+                    (Some(Container::Object), Container::Object) => {}
                     _ => return Err(Stop::Unexpected),
                 }
+                let _innermost = self.containers.pop();
                 self.expects = Expects::AfterValue;
             }
             Step::Names => self.expects = Expects::Separator,
@@ -149,7 +150,7 @@ impl Nesting {
                 self.expects = next_in(*innermost);
             }
         }
-        Ok(self)
+        Ok(())
     }
 
     // Whether the tokens so far are one JSON text.
@@ -180,15 +181,16 @@ impl Nesting {
         }
     }
 
-    // One token more.
-    pub(crate) fn after(self, token: Token) -> Result<Nesting, Stop>
+    // One token more. One that may not come leaves it as it was.
+    pub(crate) fn after(&mut self, token: Token) -> Result<(), Stop>
         ensures state { MatchResult result
-            (λ n. after_token (reverse self.containers.items, self.expects) token
-            ≡ Some (reverse n.containers.items, n.expects))
+            (λ _. after_token (reverse self.old.containers.items, self.old.expects) token
+            ≡ Some (reverse self.new.containers.items, self.new.expects))
             (λ e. e ≢ Stop.Memory
-            → after_token (reverse self.containers.items, self.expects) token ≡ None) }
+            → after_token (reverse self.old.containers.items, self.old.expects) token ≡ None) }
+        ensures unchanged { result ≡ Err Stop.Unexpected → self.new ≡ self.old }
         ensures memory { result ≡ Err Stop.Memory
-            → (container : Container) × (step_of self.expects token ≡ Some (Step.Opens container)) }
+            → (container : Container) × (step_of self.old.expects token ≡ Some (Step.Opens container)) }
     {
         match step_of(self.expects, token) {
             Some(step) => self.take(step),

@@ -5,11 +5,11 @@ ghost use Rattle.fallible_json.specs.Json.{MakesJson, fault_before, fault_place,
 ghost use Rattle.fallible_json.specs.Minifying.{ComesFrom};
 ghost use Rattle.fallible_json.specs.declared.fault.JsonFault.{JsonFault};
 
-use crate::bytes::PlacedBytes;
 use crate::fault::{JsonFault, fault_at};
-use crate::lexer::{LexFault, Tokens};
+use crate::lexer::LexFault;
 use crate::minifying::{Misplaced, minify};
 use crate::place::place_of;
+use crate::text::TextTokens;
 use crate::wanted::Wanted;
 use fallible_iterator::Fault;
 use std::alloc::Global;
@@ -49,7 +49,7 @@ fn wanted_at(fault: Misplaced<LexFault<Infallible>>, tokens: Wanted) -> Wanted
 fn minified_text(alloc: Global, text: &[u8]) -> Result<Vec<u8>, Fault<JsonFault>>
     ensures { ComesFrom (minified_text text.now) result }
 {
-    match minify(alloc, text, Tokens::new(PlacedBytes::new(text))) {
+    match minify(alloc, text, TextTokens::new(text)) {
         Ok(json) => Ok(json),
         Err(Fault::Source((fault, tokens))) => {
             let wanted = wanted_at(fault, tokens);

@@ -1,5 +1,5 @@
 //! The text of JSON without the blanks between its tokens, or the first fault and its place.
-ghost use Rattle.std.specs.Prelude.{◌≡◌, List, Result};
+ghost use Rattle.std.specs.Prelude.{◌≡◌, ◌++◌, ◌∷◌, [], List, OnOk, Result};
 ghost use Rattle.fallible_iterator.specs.Lists.{Lists};
 ghost use Rattle.fallible_json.specs.Lexing.{Lexeme};
 ghost use Rattle.fallible_json.specs.Minifying.{ComesFrom, bytes_of, ended, minified_or_wanted, with_wanted};
@@ -21,15 +21,34 @@ pub enum Misplaced<E> {
     Ended,
 }
 
-// The bytes of a text from the first to the last; none, where it has no such bytes.
-fn bytes_of(text: &[u8], first: usize, last: usize) -> &[u8]
-    ensures { result.now ≡ bytes_of text.now first last }
+// Adds a byte.
+fn add_byte(json: &mut Vec<u8>, byte: u8) -> Result<(), AllocError>
+    ensures { OnOk result (json.new.items ≡ json.old.items ++ byte ∷ []) }
 {
-    if first <= last && last < text.len() {
-        &text[first..last + 1]
-    } else {
-        &text[..0]
+    // No memory: a push fails only if an allocation does.
+    if json.push(byte).is_err() {
+        return Err(AllocError);
     }
+    Ok(())
+}
+
+// Adds the bytes of a text from the first to the last; none, where it has no such bytes.
+fn add_bytes(json: &mut Vec<u8>, text: &[u8], first: usize, last: usize) -> Result<(), AllocError>
+    ensures { OnOk result
+        (json.new.items ≡ json.old.items ++ bytes_of text.now first last) }
+{
+    if text.len() <= last || last < first {
+        return Ok(());
+    }
+    // A token of one byte needs no copy of a run.
+    if first == last {
+        return add_byte(json, text[first]);
+    }
+    // No memory: adding bytes to a vector fails only if an allocation does.
+    if json.extend_from_slice(&text[first..last + 1]).is_err() {
+        return Err(AllocError);
+    }
+    Ok(())
 }
 
 // The text, if the tokens were one JSON text.
@@ -70,23 +89,22 @@ where
     };
     let mut json = Vec::new(alloc);
     loop {
-        let wanted = nesting.wanted();
         let (first, last, token) = match tokens.draw() {
             Ok(Some(next)) => next,
-            Ok(None) => return ended(nesting.is_whole(), wanted, json),
-            Err(e) => return Err(Fault::Source((Misplaced::Source(e), wanted))),
+            Ok(None) => return ended(nesting.is_whole(), nesting.wanted(), json),
+            Err(e) => return Err(Fault::Source((Misplaced::Source(e), nesting.wanted()))),
         };
         left = left.one_less();
-        nesting = match nesting.after(token) {
-            Ok(after) => after,
+        match nesting.after(token) {
+            Ok(()) => {}
             Err(Stop::Unexpected) => {
-                return Err(Fault::Source((Misplaced::Unexpected(first), wanted)));
+                return Err(Fault::Source((Misplaced::Unexpected(first), nesting.wanted())));
             }
             // No memory: an allocation failed in `after`, and its fault doesn't keep the error.
             Err(Stop::Memory) => return Err(Fault::Memory(AllocError)),
-        };
-        // No memory: adding bytes to a vector fails only if an allocation does.
-        if json.extend_from_slice(bytes_of(text, first, last)).is_err() {
+        }
+        // No memory: adding bytes fails only if an allocation does.
+        if add_bytes(&mut json, text, first, last).is_err() {
             return Err(Fault::Memory(AllocError));
         }
     }

@@ -83,7 +83,7 @@ fn goes_if(test: bool, phase: Phase) -> Option<Phase>
 }
 
 // The token that a byte alone is, if it is one.
-fn sign_of(byte: u8) -> Option<Token>
+pub(crate) fn sign_of(byte: u8) -> Option<Token>
     ensures { result ≡ sign_of byte }
 {
     match byte {
@@ -109,7 +109,7 @@ fn first_digit(byte: u8) -> Option<Phase>
 }
 
 // What a quote, a minus, a letter or a digit begins.
-fn letter_begun(byte: u8) -> Option<Phase>
+pub(crate) fn letter_begun(byte: u8) -> Option<Phase>
     ensures { result ≡ letter_begun byte }
 {
     match byte {

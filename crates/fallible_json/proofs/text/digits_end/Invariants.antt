@@ -1,0 +1,11 @@
+-- The run of the token from here on is that from the place on.
+use Rattle.std.specs.Prelude.{◌≡◌, ◌-◌, ◌≤◌, length}
+use Rattle.fallible_json.specs.Bytes.{KeptByDigits, run_from}
+use Rattle.fallible_json.specs.declared.token.Phase.{Phase}
+use Rattle.fallible_json.proofs.text.digits_end.Given as goal
+
+abbrev pub invariant-loop-at : goal.invariant-loop-at
+invariant-loop-at l = (l.from ≤ l.at) × ((phase : Phase) → KeptByDigits phase → run_from l.text l.from phase ≡ run_from l.text l.at phase)
+
+abbrev pub decreases-loop-at : goal.decreases-loop-at
+decreases-loop-at l = length l.text - l.at
