@@ -103,7 +103,8 @@ pub(crate) struct Nesting {
 }
 
 impl Nesting {
-    fn take(mut self, step: Step) -> Result<Nesting, Stop> {
+    // A step more. One that may not come leaves it as it was.
+    fn take(&mut self, step: Step) -> Result<(), Stop> {
         match step {
             Step::Scalar => self.expects = Expects::AfterValue,
             Step::Opens(container) => {
@@ -114,14 +115,12 @@ impl Nesting {
                 self.expects = first_in(container);
             }
             Step::Closes(container) => {
-                let Some(innermost) = self.containers.pop() else {
-                    return Err(Stop::Unexpected);
-                };
-                match (innermost, container) {
-                    (Container::Array, Container::Array) => {}
-                    (Container::Object, Container::Object) => {}
+                match (self.containers.last(), container) {
+                    (Some(Container::Array), Container::Array) => {}
+                    (Some(Container::Object), Container::Object) => {}
                     _ => return Err(Stop::Unexpected),
                 }
+                let _innermost = self.containers.pop();
                 self.expects = Expects::AfterValue;
             }
             Step::Names => self.expects = Expects::Separator,
@@ -133,7 +132,7 @@ impl Nesting {
                 self.expects = next_in(*innermost);
             }
         }
-        Ok(self)
+        Ok(())
     }
 
     // Whether the tokens so far are one JSON text.
@@ -160,8 +159,8 @@ impl Nesting {
         }
     }
 
-    // One token more.
-    pub(crate) fn after(self, token: Token) -> Result<Nesting, Stop> {
+    // One token more. One that may not come leaves it as it was.
+    pub(crate) fn after(&mut self, token: Token) -> Result<(), Stop> {
         match step_of(self.expects, token) {
             Some(step) => self.take(step),
             None => Err(Stop::Unexpected),

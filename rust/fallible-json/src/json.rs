@@ -1,10 +1,10 @@
 //! A JSON text without blanks, of its bytes.
 
-use crate::bytes::PlacedBytes;
 use crate::fault::{JsonFault, fault_at};
-use crate::lexer::{LexFault, Tokens};
+use crate::lexer::LexFault;
 use crate::minifying::{Misplaced, minify};
 use crate::place::place_of;
+use crate::text::TextTokens;
 use crate::wanted::Wanted;
 use alloc::vec::Vec;
 use core::convert::Infallible;
@@ -38,7 +38,7 @@ fn wanted_at(fault: Misplaced<LexFault<Infallible>>, tokens: Wanted) -> Wanted {
 
 // The bytes of the tokens of a text, or its first fault.
 fn minified_text(text: &[u8]) -> Result<Vec<u8>, Fault<JsonFault>> {
-    match minify(text, Tokens::new(PlacedBytes::new(text))) {
+    match minify(text, TextTokens::new(text)) {
         Ok(json) => Ok(json),
         Err(Fault::Source((fault, tokens))) => {
             let wanted = wanted_at(fault, tokens);

@@ -24,7 +24,7 @@ fn with_byte(phase: Phase, byte: u8) -> Phase {
 }
 
 // The token whose bytes are these, as `next` returns it.
-fn closed<E>(
+pub(crate) fn closed<E>(
     first: usize,
     last: usize,
     phase: Phase,

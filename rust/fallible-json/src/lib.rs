@@ -24,6 +24,7 @@ mod lexer;
 mod minifying;
 mod place;
 mod report;
+mod text;
 mod token;
 mod wanted;
 #[cfg(doc)]

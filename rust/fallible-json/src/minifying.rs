@@ -18,13 +18,29 @@ pub enum Misplaced<E> {
     Ended,
 }
 
-// The bytes of a text from the first to the last; none, where it has no such bytes.
-fn bytes_of(text: &[u8], first: usize, last: usize) -> &[u8] {
-    if first <= last && last < text.len() {
-        &text[first..last + 1]
-    } else {
-        &text[..0]
+// Adds a byte.
+fn add_byte(json: &mut Vec<u8>, byte: u8) -> Result<(), AllocError> {
+    // No memory: a push fails only if an allocation does.
+    if json.try_push(byte).is_err() {
+        return Err(AllocError);
     }
+    Ok(())
+}
+
+// Adds the bytes of a text from the first to the last; none, where it has no such bytes.
+fn add_bytes(json: &mut Vec<u8>, text: &[u8], first: usize, last: usize) -> Result<(), AllocError> {
+    if text.len() <= last || last < first {
+        return Ok(());
+    }
+    // A token of one byte needs no copy of a run.
+    if first == last {
+        return add_byte(json, text[first]);
+    }
+    // No memory: adding bytes to a vector fails only if an allocation does.
+    if json.try_extend_from_slice(&text[first..last + 1]).is_err() {
+        return Err(AllocError);
+    }
+    Ok(())
 }
 
 // The text, if the tokens were one JSON text.
@@ -67,25 +83,24 @@ pub fn minify<I: FallibleIterator<Item = (usize, usize, Token)>>(
     };
     let mut json = Vec::new();
     loop {
-        let wanted = nesting.wanted();
         let (first, last, token) = match tokens.next() {
             Ok(Some(next)) => next,
-            Ok(None) => return ended(nesting.is_whole(), wanted, json),
-            Err(e) => return Err(Fault::Source((Misplaced::Source(e), wanted))),
+            Ok(None) => return ended(nesting.is_whole(), nesting.wanted(), json),
+            Err(e) => return Err(Fault::Source((Misplaced::Source(e), nesting.wanted()))),
         };
-        nesting = match nesting.after(token) {
-            Ok(after) => after,
+        match nesting.after(token) {
+            Ok(()) => {}
             Err(Stop::Unexpected) => {
-                return Err(Fault::Source((Misplaced::Unexpected(first), wanted)));
+                return Err(Fault::Source((
+                    Misplaced::Unexpected(first),
+                    nesting.wanted(),
+                )));
             }
             // No memory: an allocation failed in `after`, and its fault doesn't keep the error.
             Err(Stop::Memory) => return Err(Fault::Memory(AllocError)),
-        };
-        // No memory: adding bytes to a vector fails only if an allocation does.
-        if json
-            .try_extend_from_slice(bytes_of(text, first, last))
-            .is_err()
-        {
+        }
+        // No memory: adding bytes fails only if an allocation does.
+        if add_bytes(&mut json, text, first, last).is_err() {
             return Err(Fault::Memory(AllocError));
         }
     }

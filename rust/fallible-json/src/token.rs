@@ -77,7 +77,7 @@ fn goes_if(test: bool, phase: Phase) -> Option<Phase> {
 }
 
 // The token that a byte alone is, if it is one.
-fn sign_of(byte: u8) -> Option<Token> {
+pub(crate) fn sign_of(byte: u8) -> Option<Token> {
     match byte {
         b'[' => Some(Token::BeginArray),
         b']' => Some(Token::EndArray),
@@ -99,7 +99,7 @@ fn first_digit(byte: u8) -> Option<Phase> {
 }
 
 // What a quote, a minus, a letter or a digit begins.
-fn letter_begun(byte: u8) -> Option<Phase> {
+pub(crate) fn letter_begun(byte: u8) -> Option<Phase> {
     match byte {
         b'"' => Some(Phase::Inside),
         b'-' => Some(Phase::Minus),
