@@ -1,14 +1,13 @@
 -- `Interleave`: the answers of two sources in turn, and the rest of the one that has more.
 use Rattle.std.proofs.Common.{refl}
-use Rattle.std.specs.Prelude.{◌≡◌, ℕ, ◌+◌, ◌≤◌, ◌⊎◌, Bool, true, false, not, Option, Result, List, [], ◌∷◌, ◌++◌, map}
-use Rattle.std.specs.Iterator.{count_add}
-use Rattle.fallible_iterator.specs.Contract.{Contract, Inverse, lenders_of_both}
+use Rattle.std.specs.Prelude.{◌≡◌, ◌⊎◌, ⊤, Bool, true, false, not, None, Option, Some, Result, List, [], ◌∷◌}
+use Rattle.fallible_iterator.specs.Contract.{Contract, Inverse, parts_as}
 use Rattle.fallible_iterator.specs.Cutting.Fuse.{fuse_ended, fuse_source}
 use Rattle.fallible_iterator.specs.Hints.{hint_sum}
 use Rattle.fallible_iterator.specs.Lists.{result_answer}
-use Rattle.fallible_iterator.specs.Traces.{Answered, Run, first_of, end}
+use Rattle.fallible_iterator.specs.Traces.{Answered, end}
 use Rattle.fallible_iterator.specs.Fuse.{Fuse}
-use Rattle.fallible_itertools_joins.specs.Sides.{fused_contract, fused_steps}
+use Rattle.fallible_itertools_joins.specs.Sides.{GivesIf, Places, PlacesTrace, fused_contract, fused_steps, places_contract}
 use Rattle.fallible_itertools_joins.specs.declared.interleave.Interleave.{Interleave}
 
 -- ---- one turn
@@ -24,58 +23,24 @@ module _ {A E : Type 0} where
   turn_answer (by_itself y) = result_answer y
   turn_answer (by_other r) = r
 
-  -- what one side returns at a turn, if it is drawn: `false` is the side whose turn it is, `true` the other one
-  abbrev pub turn_draws : Bool → Turn A E → List (Answered A E)
-  turn_draws false (by_itself y) = result_answer y ∷ []
-  turn_draws false (by_other r) = end ∷ []
-  turn_draws true (by_itself y) = []
-  turn_draws true (by_other r) = r ∷ []
+  -- what one side yields at a turn, if it is drawn: `false` is the side whose turn it is, `true` the other one
+  abbrev pub turn_gave : Bool → Turn A E → Option (Answered A E)
+  turn_gave false (by_itself y) = Some (result_answer y)
+  turn_gave false (by_other r) = Some end
+  turn_gave true (by_itself y) = None
+  turn_gave true (by_other r) = Some r
 
-  -- what one side returns over turns, of which it takes each second one
-  abbrev pub turns_drawn : Bool → List (Turn A E) → List (Answered A E)
-  turns_drawn waits [] = []
-  turns_drawn waits (x ∷ turns) = turn_draws waits x ++ turns_drawn (not waits) turns
+  -- Each place is a turn, and whether it is the right's. The side whose turn it is is drawn once, and at its end the other one too; after that it is the other side's turn. Nothing is held.
+  abbrev pub turns : Places A A A E Bool (Bool × Turn A E)
+  turns = record { left = λ x. turn_gave x.0 x.1; right = λ x. turn_gave (not x.0) x.1; left_after = λ h x. None; right_after = λ h x. None; decides = λ b x c. (x.0 ≡ b) × (c ≡ not b); answer = λ x. turn_answer x.1; askable = λ P Q b. ⊤; gives = λ P Q z. P z ⊎ Q z; refuses = λ P Q b e. ⊥ }
 
-  -- whether the side waits after so many turns
-  abbrev pub waits_after : Bool → List (Turn A E) → Bool
-  waits_after waits [] = waits
-  waits_after waits (x ∷ turns) = waits_after (not waits) turns
+-- two sides of which nothing is held, and whether it is the right's turn
+abbrev pub turn_sides : {S U A : Type 0} → S × U × Bool → (S × Option A) × (U × Option A) × Bool
+turn_sides p = ((p.0, None), (p.1, None), p.2)
 
-module _ {S U A E : Type 0} (steps : S → Answered A E → S → Type 0) (others : U → Answered A E → U → Type 0) where
-  -- one turn of the first of two sides
-  abbrev pub TakesTurn : S × U → Answered A E → S × U → Type 0
-  TakesTurn p r q = (x : Turn A E) × Run steps p.0 (turn_draws false x) q.0 × Run others p.1 (turn_draws true x) q.1 × (r ≡ turn_answer x)
-
-  -- one answer: that of one turn, after which it is the other side's; the last part is whether it is the right's
-  abbrev pub interleave_step : S × U × Bool → Answered A E → S × U × Bool → Type 0
-  interleave_step p r q = (x : Turn A E) × Run steps p.0 (turn_draws p.2 x) q.0 × Run others p.1 (turn_draws (not p.2) x) q.1 × (q.2 ≡ not p.2) × (r ≡ turn_answer x)
-
-  -- A turn for each answer, of each side in turn. The side whose turn it is is drawn once, and at its end the other one too.
-  pub record TurnsTrace (p : S × U × Bool) (trace : List (Answered A E)) (q : S × U × Bool) : Type 0 where
-    pub turns : List (Turn A E)
-    pub left : Run steps p.0 (turns_drawn p.2 turns) q.0
-    pub right : Run others p.1 (turns_drawn (not p.2) turns) q.1
-    pub next : q.2 ≡ waits_after p.2 turns
-    pub answers : trace ≡ map turn_answer turns
-
--- Its definition over all that both sides return.
-abbrev pub turns_all : {S U A E : Type 0} → (S → List (Answered A E) → S → Type 0) → (U → List (Answered A E) → U → Type 0) → S × U × Bool → List (Answered A E) → S × U × Bool → Type 0
-turns_all {A = A} {E = E} traces others p trace q = (l : List (Answered A E)) × (k : List (Answered A E)) × traces p.0 l q.0 × others p.1 k q.1 × TurnsTrace first_of first_of (l, k, p.2) trace ([], [], q.2)
-
--- The contract of two sides that are drawn in turn: their bounds are added up, and so is what remains.
-abbrev pub turns_contract : {S U A E : Type 0} → Contract S A E → Contract U A E → Contract (S × U × Bool) A E
-turns_contract left right = record {
-  can_next = λ p. left.can_next p.0 × right.can_next p.1;
-  steps = interleave_step left.steps right.steps;
-  bound = λ p n. (a : ℕ) × (b : ℕ) × left.bound p.0 a × right.bound p.1 b × (a + b ≤ n);
-  is_finite = λ p. left.is_finite p.0 × right.is_finite p.1;
-  remaining = λ p. count_add (left.remaining p.0) (right.remaining p.1);
-  may_give = λ p x. left.may_give p.0 x ⊎ right.may_give p.1 x;
-  may_fail = λ p e. left.may_fail p.0 e ⊎ right.may_fail p.1 e;
-  hints = λ p h. (g : ℕ × Option ℕ) × (k : ℕ × Option ℕ) × left.hints p.0 g × right.hints p.1 k × (h ≡ hint_sum g k);
-  lenders = λ p. lenders_of_both (left.lenders p.0) (right.lenders p.1);
-  traces = turns_all left.traces right.traces;
-}
+-- one turn of the first of two sides
+abbrev pub TakesTurn : {S U A E : Type 0} → (S → Answered A E → S → Type 0) → (U → Answered A E → U → Type 0) → S × U → Answered A E → S × U → Type 0
+TakesTurn {A = A} {E = E} steps others p r q = (x : Turn A E) × GivesIf steps (p.0, None) (turn_gave false x) q.0 × GivesIf others (p.1, None) (turn_gave true x) q.1 × (r ≡ turn_answer x)
 
 -- ---- the adapter
 
@@ -117,11 +82,11 @@ interleave_made = record { make = λ p. record { left = p.0; right = p.1; right_
 
 -- `Interleave`: both sides are fused, and there is a turn for each answer.
 abbrev pub InterleaveTrace : {S U A E : Type 0} → (S → Answered A E → S → Type 0) → (U → Answered A E → U → Type 0) → Fuse S × Fuse U × Bool → List (Answered A E) → Fuse S × Fuse U × Bool → Type 0
-InterleaveTrace steps others p trace q = TurnsTrace (fused_steps steps) (fused_steps others) p trace q
+InterleaveTrace steps others p trace q = PlacesTrace (fused_steps steps) (fused_steps others) turns (turn_sides p) trace (turn_sides q)
 
--- `Interleave`'s contract: both sides, fused, are drawn in turn.
+-- `Interleave`'s contract: both sides, fused, are drawn in turn; their bounds are added up, and so is what remains.
 abbrev pub interleave_contract : {S U A E : Type 0} → Contract S A E → Contract U A E → Contract (Fuse S × Fuse U × Bool) A E
-interleave_contract left right = turns_contract (fused_contract left) (fused_contract right)
+interleave_contract left right = parts_as turn_sides (places_contract (fused_contract left) (fused_contract right) turns hint_sum)
 
 -- ---- what it lists
 

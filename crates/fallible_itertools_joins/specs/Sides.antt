@@ -175,6 +175,22 @@ module _ {A B C E F V : Type 0} (rule : Rule A B C E F V) where
   place_decides f (right_failed x e) g = g ≡ f
   place_decides f (both_gave x y v) g = rule.decides f x y v g
 
+-- What is made of two sides at places of a kind X: what each side yielded at a place, if it was drawn, and what is held of it then; how the closure decides, and the answer; and what may come.
+pub record Places (A B C E F X : Type 0) : Type 1 where
+  pub left : X → Option (Answered A E)
+  pub right : X → Option (Answered B E)
+  pub left_after : Option A → X → Option A
+  pub right_after : Option B → X → Option B
+  pub decides : F → X → F → Type 0
+  pub answer : X → Answered C E
+  pub askable : (A → Type 0) → (B → Type 0) → F → Type 0
+  pub gives : (A → Type 0) → (B → Type 0) → C → Type 0
+  pub refuses : (A → Type 0) → (B → Type 0) → F → E → Type 0
+
+-- the places of a rule
+abbrev pub rule_places : {A B C E F V : Type 0} → Rule A B C E F V → Places A B C E F (SidesPlace A B E V)
+rule_places rule = record { left = left_gave; right = right_gave; left_after = left_held_after rule; right_after = right_held_after rule; decides = place_decides rule; answer = place_answer rule; askable = rule.askable; gives = rule.gives; refuses = rule.refuses }
+
 -- ---- over whole traces
 
 -- an answer that was drawn before others; if an item was held, or the side wasn't drawn, none was
@@ -205,41 +221,54 @@ module _ {A E X : Type 0} (gave : X → Option (Answered A E)) (held_after : Opt
     pub drawn : Run steps p.0 (drawn_at p.1 places) q.0
     pub held : HeldThrough p.1 places q.1
 
+module _ {S U A B C E F X : Type 0} (steps : S → Answered A E → S → Type 0) (others : U → Answered B E → U → Type 0) (there : Places A B C E F X) where
+  -- A place for each answer. What is held of a side stands at its next place.
+  pub record PlacesTrace (p : (S × Option A) × (U × Option B) × F) (trace : List (Answered C E)) (q : (S × Option A) × (U × Option B) × F) : Type 0 where
+    pub places : List X
+    pub left : SideTrace there.left there.left_after steps p.0 places q.0
+    pub right : SideTrace there.right there.right_after others p.1 places q.1
+    pub decided : FoldsTo there.decides p.2 places q.2
+    pub answers : trace ≡ map there.answer places
+
+  -- one answer: that of one place
+  abbrev pub places_step : (S × Option A) × (U × Option B) × F → Answered C E → (S × Option A) × (U × Option B) × F → Type 0
+  places_step p r q = (x : X) × GivesIf steps p.0 (there.left x) q.0.0 × (q.0.1 ≡ there.left_after p.0.1 x) × GivesIf others p.1 (there.right x) q.1.0 × (q.1.1 ≡ there.right_after p.1.1 x) × there.decides p.2 x q.2 × (r ≡ there.answer x)
+
 module _ {S U A B C E F V : Type 0} (steps : S → Answered A E → S → Type 0) (others : U → Answered B E → U → Type 0) (rule : Rule A B C E F V) where
-  -- A place for each answer. A failure of the left is returned, and the right isn't drawn. A failure of the right is returned, and the left's item is held, so that it stands at the next place too; an end of the left isn't held. Of an item or an end of each the rule makes the answer. Nothing is allocated, so no allocation fails.
-  pub record SidesTrace (p : (S × Option A) × (U × Option B) × F) (trace : List (Answered C E)) (q : (S × Option A) × (U × Option B) × F) : Type 0 where
-    pub places : List (SidesPlace A B E V)
-    pub left : SideTrace left_gave (left_held_after rule) steps p.0 places q.0
-    pub right : SideTrace right_gave (right_held_after rule) others p.1 places q.1
-    pub decided : FoldsTo (place_decides rule) p.2 places q.2
-    pub answers : trace ≡ map (place_answer rule) places
+  -- A failure of the left is returned, and the right isn't drawn. A failure of the right is returned, and the left's item is held, so that it stands at the next place too; an end of the left isn't held. Of an item or an end of each the rule makes the answer. Nothing is allocated, so no allocation fails.
+  abbrev pub SidesTrace : (S × Option A) × (U × Option B) × F → List (Answered C E) → (S × Option A) × (U × Option B) × F → Type 0
+  SidesTrace = PlacesTrace steps others (rule_places rule)
 
   -- one answer: that of one place
   abbrev pub sides_step : (S × Option A) × (U × Option B) × F → Answered C E → (S × Option A) × (U × Option B) × F → Type 0
-  sides_step p r q = (x : SidesPlace A B E V) × GivesIf steps p.0 (left_gave x) q.0.0 × (q.0.1 ≡ left_held_after rule p.0.1 x) × GivesIf others p.1 (right_gave x) q.1.0 × (q.1.1 ≡ right_held_after rule p.1.1 x) × place_decides rule p.2 x q.2 × (r ≡ place_answer rule x)
+  sides_step = places_step steps others (rule_places rule)
 
 -- nothing is held of the right
 abbrev pub RightFree : {P B U F : Type 0} → P × (U × Option B) × F → Type 0
 RightFree p = p.1.1 ≡ None
 
 -- Its definition over all that both sources return: there is a list that each of them may return, and of these the definition makes the trace.
-abbrev pub joins_all : {S U A B C E F V : Type 0} → (S → List (Answered A E) → S → Type 0) → (U → List (Answered B E) → U → Type 0) → Rule A B C E F V → (S × Option A) × (U × Option B) × F → List (Answered C E) → (S × Option A) × (U × Option B) × F → Type 0
-joins_all {A = A} {B = B} {E = E} traces others rule p trace q = (l : List (Answered A E)) × (k : List (Answered B E)) × traces p.0.0 l q.0.0 × others p.1.0 k q.1.0 × SidesTrace first_of first_of rule ((l, p.0.1), (k, p.1.1), p.2) trace (([], q.0.1), ([], q.1.1), q.2)
+abbrev pub joins_all : {S U A B C E F X : Type 0} → (S → List (Answered A E) → S → Type 0) → (U → List (Answered B E) → U → Type 0) → Places A B C E F X → (S × Option A) × (U × Option B) × F → List (Answered C E) → (S × Option A) × (U × Option B) × F → Type 0
+joins_all {A = A} {B = B} {E = E} traces others there p trace q = (l : List (Answered A E)) × (k : List (Answered B E)) × traces p.0.0 l q.0.0 × others p.1.0 k q.1.0 × PlacesTrace first_of first_of there ((l, p.0.1), (k, p.1.1), p.2) trace (([], q.0.1), ([], q.1.1), q.2)
 
 -- The bounds of both sides and what is held of them are added up, and so is what remains. The hint is made of those of both sides, each with what is held of it.
-abbrev pub sides_contract : {S U A B C E F V : Type 0} → Contract S A E → Contract U B E → Rule A B C E F V → (ℕ × Option ℕ → ℕ × Option ℕ → ℕ × Option ℕ) → Contract ((S × Option A) × (U × Option B) × F) C E
-sides_contract left right rule hint = record {
-  can_next = λ p. left.can_next p.0.0 × right.can_next p.1.0 × rule.askable (side_gives left p.0) (side_gives right p.1) p.2;
-  steps = sides_step left.steps right.steps rule;
+abbrev pub places_contract : {S U A B C E F X : Type 0} → Contract S A E → Contract U B E → Places A B C E F X → (ℕ × Option ℕ → ℕ × Option ℕ → ℕ × Option ℕ) → Contract ((S × Option A) × (U × Option B) × F) C E
+places_contract left right there hint = record {
+  can_next = λ p. left.can_next p.0.0 × right.can_next p.1.0 × there.askable (side_gives left p.0) (side_gives right p.1) p.2;
+  steps = places_step left.steps right.steps there;
   bound = λ p n. (a : ℕ) × (b : ℕ) × left.bound p.0.0 a × right.bound p.1.0 b × ((a + held_count p.0.1) + (b + held_count p.1.1) ≤ n);
   is_finite = λ p. left.is_finite p.0.0 × right.is_finite p.1.0;
   remaining = λ p. count_add (side_remaining left p.0) (side_remaining right p.1);
-  may_give = λ p z. rule.gives (side_gives left p.0) (side_gives right p.1) z;
-  may_fail = λ p e. left.may_fail p.0.0 e ⊎ (right.may_fail p.1.0 e ⊎ rule.refuses (side_gives left p.0) (side_gives right p.1) p.2 e);
+  may_give = λ p z. there.gives (side_gives left p.0) (side_gives right p.1) z;
+  may_fail = λ p e. left.may_fail p.0.0 e ⊎ (right.may_fail p.1.0 e ⊎ there.refuses (side_gives left p.0) (side_gives right p.1) p.2 e);
   hints = λ p h. (g : ℕ × Option ℕ) × (k : ℕ × Option ℕ) × left.hints p.0.0 g × right.hints p.1.0 k × (h ≡ hint (side_hint p.0.1 g) (side_hint p.1.1 k));
   lenders = λ p. lenders_of_both (left.lenders p.0.0) (right.lenders p.1.0);
-  traces = joins_all left.traces right.traces rule;
+  traces = joins_all left.traces right.traces there;
 }
+
+-- the contract of two sides by a rule
+abbrev pub sides_contract : {S U A B C E F V : Type 0} → Contract S A E → Contract U B E → Rule A B C E F V → (ℕ × Option ℕ → ℕ × Option ℕ → ℕ × Option ℕ) → Contract ((S × Option A) × (U × Option B) × F) C E
+sides_contract left right rule hint = places_contract left right (rule_places rule) hint
 
 -- ---- a join: of two items one is taken, or both
 

@@ -1,5 +1,5 @@
 -- What `Interleave` lists, its whole traces, and that its hints are sound.
-use Rattle.std.specs.Prelude.{ℕ, zero, suc, ◌≡◌, ◌+◌, ◌≤◌, Bool, true, false, not, List, [], ◌∷◌, ◌++◌, None, Option, Result, Ok, Err, drop, length, zip}
+use Rattle.std.specs.Prelude.{ℕ, zero, suc, ◌≡◌, ◌+◌, ◌≤◌, Bool, true, false, not, List, [], ◌∷◌, ◌++◌, None, Some, Option, Result, Ok, Err, drop, length, zip}
 use Rattle.std.specs.List.{flat_map}
 use Rattle.std.proofs.Common.{refl, sym, ap, subst, ◌∙◌, arith, inl}
 use Rattle.fallible_iterator.specs.Contract.{Contract, seen_as}
@@ -7,16 +7,16 @@ use Rattle.fallible_iterator.specs.Cutting.Fuse.{fuse_parts}
 use Rattle.fallible_iterator.specs.Hints.{hint_sum}
 use Rattle.fallible_iterator.specs.Lists.{GivesForGood, Lists, result_answer, ListsForGood}
 use Rattle.fallible_iterator.specs.SoundHints.{AsSoundAsBoth}
-use Rattle.fallible_iterator.specs.Traces.{Answered, Run, Yields, item, end}
+use Rattle.fallible_iterator.specs.Traces.{Answered, Yields, item, end}
 use Rattle.fallible_iterator.specs.Fuse.{Fuse}
 use Rattle.fallible_iterator.proofs.Lemmas.Hints.Drawn.{if_some_at_least_of_smaller}
 use Rattle.fallible_iterator.proofs.Lemmas.Hints.Joining.{if_some_fitting_sum_at_least_both}
 use Rattle.fallible_iterator.proofs.Lemmas.Lists.ForGood.{lists_once, lists_for_good_seen}
 use Rattle.fallible_iterator.specs.Interleaved.{Interleaved, of_neither, of_first, of_second}
-use Rattle.fallible_itertools_joins.specs.Interleave.{Turn, by_itself, by_other, interleave_contract, interleave_parts, interleave_step, interleaved, turn_answer, turn_draws}
-use Rattle.fallible_itertools_joins.specs.Sides.{fused_steps}
+use Rattle.fallible_itertools_joins.specs.Interleave.{Turn, by_itself, by_other, interleave_contract, interleave_parts, interleaved, turn_answer, turn_gave, turn_sides, turns}
+use Rattle.fallible_itertools_joins.specs.Sides.{GivesIf, fused_steps, places_step}
 use Rattle.fallible_itertools_joins.specs.declared.interleave.Interleave.{Interleave}
-use Rattle.fallible_itertools_joins.proofs.Lemmas.Sides.{NoItemAfterEnd, ItemsCome, ItemsThenEnd, first_answer, answers_first_where_gives_for_good, gives_for_good_of_fresh, gives_for_good_where_each_answers_first, items_come_before_draw, rest_of, side_hint_above, side_hint_below}
+use Rattle.fallible_itertools_joins.proofs.Lemmas.Sides.{NoItemAfterEnd, ItemsCome, ItemsThenEnd, first_answer, answers_first_where_gives_for_good, gives_for_good_of_fresh, gives_for_good_where_each_answers_first, items_come_before_draw, items_then_end_from, items_then_end_none_from, rest_of, side_hint_above, side_hint_below}
 
 -- ---- the list
 
@@ -73,34 +73,32 @@ result_is_no_end : {A E : Type 0} (y : Result A E) → result_answer y ≡ end �
 result_is_no_end (Ok x) is = absurd cc
 result_is_no_end (Err e) is = absurd cc
 
-module _ {S A E : Type 0} (steps : S → Answered A E → S → Type 0) where
-  -- the one answer of a side is what stands first
-  first_answer_of_run : (l : List (Result A E)) (s t : S) (r : Answered A E) → GivesForGood steps s l → Run steps s (r ∷ []) t → (r ≡ first_answer l) × GivesForGood steps t (rest_of l)
-  first_answer_of_run l s t r i ran = subst (λ (u : S). (r ≡ first_answer l) × GivesForGood steps u (rest_of l)) ran.2 (answers_first_where_gives_for_good steps l s ran.0 r i ran.1)
-
-  gives_for_good_after_empty_run : (l : List (Result A E)) (s t : S) → GivesForGood steps s l → Run steps s [] t → GivesForGood steps t l
-  gives_for_good_after_empty_run l s t i ran = subst (λ (u : S). GivesForGood steps u l) ran i
-
 module _ {S U A E : Type 0} (steps : S → Answered A E → S → Type 0) (others : U → Answered A E → U → Type 0) where
   -- one turn of a side that lists a, beside one that lists b
-  turn_answers_first_of_interleaved : (x : Turn A E) (s t : S) (u v : U) (a b : List (Result A E)) → GivesForGood steps s a → GivesForGood others u b → Run steps s (turn_draws false x) t → Run others u (turn_draws true x) v → (turn_answer x ≡ first_answer (interleaved a b)) × ((c : List (Result A E)) × (d : List (Result A E)) × GivesForGood steps t c × GivesForGood others v d × (interleaved d c ≡ rest_of (interleaved a b)))
+  turn_answers_first_of_interleaved : (x : Turn A E) (s t : S) (u v : U) (a b : List (Result A E)) → GivesForGood steps s a → GivesForGood others u b → GivesIf steps (s, None) (turn_gave false x) t → GivesIf others (u, None) (turn_gave true x) v → (turn_answer x ≡ first_answer (interleaved a b)) × ((c : List (Result A E)) × (d : List (Result A E)) × GivesForGood steps t c × GivesForGood others v d × (interleaved d c ≡ rest_of (interleaved a b)))
   unfolding interleaved
-  turn_answers_first_of_interleaved (by_itself y) s t u v [] b i k m n = let no = (first_answer_of_run steps [] s t (result_answer y) i m).0 in absurd (result_is_no_end y no)
-  turn_answers_first_of_interleaved (by_itself y) s t u v (z ∷ a) b i k m n = let w = first_answer_of_run steps (z ∷ a) s t (result_answer y) i m in let e = interleaved_of_cons_is_first_and_swapped z a b in (w.0 ∙ sym (ap first_answer e), (a, b, w.1, gives_for_good_after_empty_run others b u v k n, sym (ap rest_of e)))
-  turn_answers_first_of_interleaved (by_other r) s t u v [] b i k m n = let w = first_answer_of_run steps [] s t end i m in let o = first_answer_of_run others b u v r k n in (o.0, ([], rest_of b, w.1, o.1, interleaved_with_empty_is_same (rest_of b)))
-  turn_answers_first_of_interleaved (by_other r) s t u v (z ∷ a) b i k m n = let no = (first_answer_of_run steps (z ∷ a) s t end i m).0 in absurd (result_is_no_end z (sym no))
+  turn_answers_first_of_interleaved (by_itself y) s t u v [] b i k m n = let no = (answers_first_where_gives_for_good steps [] s t (result_answer y) i m).0 in absurd (result_is_no_end y no)
+  turn_answers_first_of_interleaved (by_itself y) s t u v (z ∷ a) b i k m n = let w = answers_first_where_gives_for_good steps (z ∷ a) s t (result_answer y) i m in let e = interleaved_of_cons_is_first_and_swapped z a b in (w.0 ∙ sym (ap first_answer e), (a, b, w.1, subst (λ (c : U). GivesForGood others c b) (sym n) k, sym (ap rest_of e)))
+  turn_answers_first_of_interleaved (by_other r) s t u v [] b i k m n = let w = answers_first_where_gives_for_good steps [] s t end i m in let o = answers_first_where_gives_for_good others b u v r k n in (o.0, ([], rest_of b, w.1, o.1, interleaved_with_empty_is_same (rest_of b)))
+  turn_answers_first_of_interleaved (by_other r) s t u v (z ∷ a) b i k m n = let no = (answers_first_where_gives_for_good steps (z ∷ a) s t end i m).0 in absurd (result_is_no_end z (sym no))
 
   -- the sides list a and b, and this is what is listed of both at this turn
   abbrev ListInTurn : S × U × Bool → List (Result A E) → Type 0
   ListInTurn p l = (a : List (Result A E)) × (b : List (Result A E)) × GivesForGood steps p.0 a × GivesForGood others p.1 b × (by_turn p.2 a b ≡ l)
 
-module _ {S U A E : Type 0} (steps : S → Answered A E → S → Type 0) (others : U → Answered A E → U → Type 0) where
-  step_in_turn_answers_first : (p q : S × U × Bool) (r : Answered A E) (l : List (Result A E)) → ListInTurn steps others p l → interleave_step steps others p r q → (r ≡ first_answer l) × ListInTurn steps others q (rest_of l)
-  step_in_turn_answers_first (s, u, false) (t, v, c) r l i w = let d = turn_answers_first_of_interleaved steps others w.0 s t u v i.0 i.1 i.2 i.3 w.1 w.2 in rw (w.3, w.4, ← i.4) (d.0, d.1)
-  step_in_turn_answers_first (s, u, true) (t, v, c) r l i w = let d = turn_answers_first_of_interleaved others steps w.0 u v s t i.1 i.0 i.3 i.2 w.2 w.1 in rw (w.3, w.4, ← i.4) (d.0, (d.1.1, d.1.0, d.1.3, d.1.2, d.1.4))
+  abbrev TurnStep : S × U × Bool → Answered A E → S × U × Bool → Type 0
+  TurnStep p r q = places_step steps others turns (turn_sides p) r (turn_sides q)
 
-  gives_for_good_in_turn : (s : S) (u : U) (a b : List (Result A E)) → GivesForGood steps s a → GivesForGood others u b → GivesForGood (interleave_step steps others) (s, u, false) (interleaved a b)
-  gives_for_good_in_turn s u a b i k = gives_for_good_where_each_answers_first (interleave_step steps others) (ListInTurn steps others) (λ p q r l d w. step_in_turn_answers_first p q r l d w) (interleaved a b) (s, u, false) (a, b, i, k, refl)
+module _ {S U A E : Type 0} (steps : S → Answered A E → S → Type 0) (others : U → Answered A E → U → Type 0) where
+  turn_answers_first : (b : Bool) (x : Turn A E) (s t : S) (u v : U) (l : List (Result A E)) → ListInTurn steps others (s, u, b) l → GivesIf steps (s, None) (turn_gave b x) t → GivesIf others (u, None) (turn_gave (not b) x) v → (turn_answer x ≡ first_answer l) × ListInTurn steps others (t, v, not b) (rest_of l)
+  turn_answers_first false x s t u v l i m n = let d = turn_answers_first_of_interleaved steps others x s t u v i.0 i.1 i.2 i.3 m n in rw (← i.4) (d.0, d.1)
+  turn_answers_first true x s t u v l i m n = let d = turn_answers_first_of_interleaved others steps x u v s t i.1 i.0 i.3 i.2 n m in rw (← i.4) (d.0, (d.1.1, d.1.0, d.1.3, d.1.2, d.1.4))
+
+  step_in_turn_answers_first : (p q : S × U × Bool) (r : Answered A E) (l : List (Result A E)) → ListInTurn steps others p l → TurnStep steps others p r q → (r ≡ first_answer l) × ListInTurn steps others q (rest_of l)
+  step_in_turn_answers_first (s, u, b) (t, v, c) r l i w = rw (w.5.1, w.6, ← w.5.0) (turn_answers_first w.0.0 w.0.1 s t u v l (subst (λ (d : Bool). ListInTurn steps others (s, u, d) l) (sym w.5.0) i) w.1 w.3)
+
+  gives_for_good_in_turn : (s : S) (u : U) (a b : List (Result A E)) → GivesForGood steps s a → GivesForGood others u b → GivesForGood (TurnStep steps others) (s, u, false) (interleaved a b)
+  gives_for_good_in_turn s u a b i k = gives_for_good_where_each_answers_first (TurnStep steps others) (ListInTurn steps others) (λ p q r l d w. step_in_turn_answers_first p q r l d w) (interleaved a b) (s, u, false) (a, b, i, k, refl)
 
 module _ {S U A E : Type 0} (left : Contract S A E) (right : Contract U A E) (c : Interleave S U) {p : Fuse S} {q : Fuse U} (s : S) (u : U) (a b : List (Result A E)) where
   pub lists_for_good_interleaved : interleave_parts c ≡ (p, q, false) → fuse_parts p ≡ (s, false) → fuse_parts q ≡ (u, false) → Lists left.steps s a → Lists right.steps u b → ListsForGood (seen_as interleave_parts (interleave_contract left right)).steps c (interleaved a b)
@@ -125,44 +123,29 @@ taken_of_both_sides_is_one true (by_itself y) = refl
 taken_of_both_sides_is_one true (by_other r) = refl
 
 module _ {S A E : Type 0} (steps : S → Answered A E → S → Type 0) where
-  items_come_one_more_at_item : (s t : S) (y : A) (n : ℕ) → Run steps s (item y ∷ []) t → ItemsCome steps (t, None) n → ItemsCome steps (s, None) (1 + n)
-  items_come_one_more_at_item s t y n ran d = record { came = y ∷ d.came; left = d.left; ran = (ran.0, ran.1, subst (λ (u : S). Yields steps u d.came d.left) (sym ran.2) d.ran); many = omega (arith, d.many) }
+  items_come_at_turn : NoItemAfterEnd steps → (b : Bool) (x : Turn A E) (z : A) (s t : S) (n : ℕ) → turn_answer x ≡ item z → GivesIf steps (s, None) (turn_gave b x) t → ItemsCome steps (t, None) n → ItemsCome steps (s, None) (taken b x + n)
+  items_come_at_turn once false (by_itself (Ok y)) z s t n is g d = (items_come_before_draw steps once (s, None) t (Some y) None n (inl refl) g d).0
+  items_come_at_turn once false (by_itself (Err e)) z s t n is g d = absurd cc
+  items_come_at_turn once false (by_other r) z s t n is g d = (items_come_before_draw steps once (s, None) t None None n (inl refl) g d).0
+  items_come_at_turn once true (by_itself y) z s t n is g d = let same : n ≡ 0 + n = omega arith in subst (λ (k : ℕ). ItemsCome steps (s, None) k) same (subst (λ (u : S). ItemsCome steps (u, None) n) g d)
+  items_come_at_turn once true (by_other r) z s t n is g d = (items_come_before_draw steps once (s, None) t (Some z) None n (inl refl) (subst (λ (a : Answered A E). steps s a t) is g) d).0
 
-  items_come_fewer : (p : S × Option A) (n m : ℕ) → m ≤ n → ItemsCome steps p n → ItemsCome steps p m
-  items_come_fewer p n m le d = record { came = d.came; left = d.left; ran = d.ran; many = omega (arith, le, d.many) }
-
-  items_come_at_turn : NoItemAfterEnd steps → (b : Bool) (x : Turn A E) (z : A) (s t : S) (n : ℕ) → turn_answer x ≡ item z → Run steps s (turn_draws b x) t → ItemsCome steps (t, None) n → ItemsCome steps (s, None) (taken b x + n)
-  items_come_at_turn once false (by_itself (Ok y)) z s t n is ran d = items_come_one_more_at_item s t y n ran d
-  items_come_at_turn once false (by_itself (Err e)) z s t n is ran d = absurd cc
-  items_come_at_turn once false (by_other r) z s t n is ran d = (items_come_before_draw steps once (s, None) ran.0 None None n (inl refl) ran.1 (subst (λ (u : S). ItemsCome steps (u, None) n) (sym ran.2) d)).0
-  items_come_at_turn once true (by_itself y) z s t n is ran d = items_come_fewer (s, None) n _ (omega arith) (subst (λ (u : S). ItemsCome steps (u, None) n) (sym ran) d)
-  items_come_at_turn once true (by_other r) z s t n is ran d = items_come_one_more_at_item s t z n (subst (λ (a : Answered A E). Run steps s (a ∷ []) t) is ran) d
-
-  items_end_first : (s t : S) (y : A) (n : ℕ) → Run steps s (item y ∷ []) t → ItemsThenEnd steps (t, None) n → ItemsThenEnd steps (s, None) (1 + n)
-  items_end_first s t y n ran d = record { came = y ∷ d.came; left = d.left; last = d.last; ran = (ran.0, ran.1, subst (λ (u : S). Yields steps u d.came d.left) (sym ran.2) d.ran); ended = d.ended; few = omega (arith, d.few) }
-
-  items_end_more : (p : S × Option A) (n m : ℕ) → n ≤ m → ItemsThenEnd steps p n → ItemsThenEnd steps p m
-  items_end_more p n m le d = record { came = d.came; left = d.left; last = d.last; ran = d.ran; ended = d.ended; few = omega (arith, le, d.few) }
-
-  ended_at_once : (s t : S) (n : ℕ) → Run steps s (end ∷ []) t → ItemsThenEnd steps (s, None) n
-  ended_at_once s t n ran = record { came = []; left = s; last = ran.0; ran = refl; ended = ran.1; few = omega arith }
-
-  items_end_at_turn : (b : Bool) (x : Turn A E) (z : A) (s t : S) (n : ℕ) → turn_answer x ≡ item z → Run steps s (turn_draws b x) t → ItemsThenEnd steps (t, None) n → ItemsThenEnd steps (s, None) (taken b x + n)
-  items_end_at_turn false (by_itself (Ok y)) z s t n is ran d = items_end_first s t y n ran d
-  items_end_at_turn false (by_itself (Err e)) z s t n is ran d = absurd cc
-  items_end_at_turn false (by_other r) z s t n is ran d = ended_at_once s t _ ran
-  items_end_at_turn true (by_itself y) z s t n is ran d = items_end_more (s, None) n _ (omega arith) (subst (λ (u : S). ItemsThenEnd steps (u, None) n) (sym ran) d)
-  items_end_at_turn true (by_other r) z s t n is ran d = items_end_first s t z n (subst (λ (a : Answered A E). Run steps s (a ∷ []) t) is ran) d
+  items_end_at_turn : (b : Bool) (x : Turn A E) (z : A) (s t : S) (n : ℕ) → turn_answer x ≡ item z → GivesIf steps (s, None) (turn_gave b x) t → ItemsThenEnd steps (t, None) n → ItemsThenEnd steps (s, None) (taken b x + n)
+  items_end_at_turn false (by_itself (Ok y)) z s t n is g d = items_then_end_from steps (s, None) t (Some y) None n (inl refl) g d
+  items_end_at_turn false (by_itself (Err e)) z s t n is g d = absurd cc
+  items_end_at_turn false (by_other r) z s t n is g d = items_then_end_from steps (s, None) t None None n (inl refl) g d
+  items_end_at_turn true (by_itself y) z s t n is g d = let same : n ≡ 0 + n = omega arith in subst (λ (k : ℕ). ItemsThenEnd steps (s, None) k) same (subst (λ (u : S). ItemsThenEnd steps (u, None) n) g d)
+  items_end_at_turn true (by_other r) z s t n is g d = items_then_end_from steps (s, None) t (Some z) None n (inl refl) (subst (λ (a : Answered A E). steps s a t) is g) d
 
   -- at an end of both, each side ended
-  ended_at_turn : (b : Bool) (x : Turn A E) (s t : S) → turn_answer x ≡ end → Run steps s (turn_draws b x) t → ItemsThenEnd steps (s, None) 0
-  ended_at_turn b (by_itself y) s t is ran = absurd (result_is_no_end y is)
-  ended_at_turn false (by_other r) s t is ran = ended_at_once s t 0 ran
-  ended_at_turn true (by_other r) s t is ran = ended_at_once s t 0 (subst (λ (a : Answered A E). Run steps s (a ∷ []) t) is ran)
+  ended_at_turn : (b : Bool) (x : Turn A E) (s t : S) → turn_answer x ≡ end → GivesIf steps (s, None) (turn_gave b x) t → ItemsThenEnd steps (s, None) 0
+  ended_at_turn b (by_itself y) s t is g = absurd (result_is_no_end y is)
+  ended_at_turn false (by_other r) s t is g = items_then_end_none_from steps (s, None) t g
+  ended_at_turn true (by_other r) s t is g = items_then_end_none_from steps (s, None) t (subst (λ (a : Answered A E). steps s a t) is g)
 
 module _ {S U A E : Type 0} (steps : S → Answered A E → S → Type 0) (others : U → Answered A E → U → Type 0) where
   abbrev StepHere : S × U × Bool → Answered A E → S × U × Bool → Type 0
-  StepHere = interleave_step steps others
+  StepHere = TurnStep steps others
 
   -- items come of both sides, n together at least
   abbrev BothCome : S × U × Bool → ℕ → Type 0
@@ -174,19 +157,19 @@ module _ {S U A E : Type 0} (steps : S → Answered A E → S → Type 0) (other
       let m = ran.0 in
       let w = ran.1 in
       let d = both_come_in_turn once also zs m q ran.2 in
-      (taken p.2 w.0 + d.0, taken (not p.2) w.0 + d.1, items_come_at_turn steps once p.2 w.0 z p.0 m.0 d.0 (sym w.4) w.1 d.2, items_come_at_turn others also (not p.2) w.0 z p.1 m.1 d.1 (sym w.4) w.2 d.3, omega (arith, taken_of_both_sides_is_one p.2 w.0, d.4))
+      (taken w.0.0 w.0.1 + d.0, taken (not w.0.0) w.0.1 + d.1, items_come_at_turn steps once w.0.0 w.0.1 z p.0 m.0 d.0 (sym w.6) w.1 d.2, items_come_at_turn others also (not w.0.0) w.0.1 z p.1 m.1 d.1 (sym w.6) w.3 d.3, omega (arith, taken_of_both_sides_is_one w.0.0 w.0.1, d.4))
 
   -- items and then an end come of both sides, n together at most
   abbrev BothEnd : S × U × Bool → ℕ → Type 0
   BothEnd p n = (i : ℕ) × (j : ℕ) × ItemsThenEnd steps (p.0, None) i × ItemsThenEnd others (p.1, None) j × (i + j ≤ n)
 
   both_end_in_turn : (zs : List A) (p q r : S × U × Bool) → Yields StepHere p zs q → StepHere q end r → BothEnd p (length zs)
-  both_end_in_turn [] p q r ran w = let e = sym w.4 in subst (λ (z : S × U × Bool). BothEnd z 0) (sym ran) (0, 0, ended_at_turn steps q.2 w.0 q.0 r.0 e w.1, ended_at_turn others (not q.2) w.0 q.1 r.1 e w.2, omega arith)
+  both_end_in_turn [] p q r ran w = let e = sym w.6 in subst (λ (z : S × U × Bool). BothEnd z 0) (sym ran) (0, 0, ended_at_turn steps w.0.0 w.0.1 q.0 r.0 e w.1, ended_at_turn others (not w.0.0) w.0.1 q.1 r.1 e w.3, omega arith)
   both_end_in_turn (z ∷ zs) p q r ran w =
       let m = ran.0 in
       let x = ran.1 in
       let d = both_end_in_turn zs m q r ran.2 w in
-      (taken p.2 x.0 + d.0, taken (not p.2) x.0 + d.1, items_end_at_turn steps p.2 x.0 z p.0 m.0 d.0 (sym x.4) x.1 d.2, items_end_at_turn others (not p.2) x.0 z p.1 m.1 d.1 (sym x.4) x.2 d.3, omega (arith, taken_of_both_sides_is_one p.2 x.0, d.4))
+      (taken x.0.0 x.0.1 + d.0, taken (not x.0.0) x.0.1 + d.1, items_end_at_turn steps x.0.0 x.0.1 z p.0 m.0 d.0 (sym x.6) x.1 d.2, items_end_at_turn others (not x.0.0) x.0.1 z p.1 m.1 d.1 (sym x.6) x.3 d.3, omega (arith, taken_of_both_sides_is_one x.0.0 x.0.1, d.4))
 
   pub as_sound_as_both_interleave : NoItemAfterEnd steps → NoItemAfterEnd others → (p : S × U × Bool) (h g k : ℕ × Option ℕ) → h ≡ hint_sum g k → AsSoundAsBoth StepHere p h steps p.0 g others p.1 k
   as_sound_as_both_interleave once also p h g k is = rw is (record {

@@ -149,13 +149,13 @@ pub record ItemsThenEnd {S A E : Type 0} (steps : S → Answered A E → S → T
   pub few : length came + held_count p.1 ≤ n
 
 module _ {S A E : Type 0} (steps : S → Answered A E → S → Type 0) where
-  items_then_end_from : (p : S × Option A) (t : S) (x h : Option A) (n : ℕ) → (h ≡ None) ⊎ (h ≡ x) → GivesHeldFirst steps p (Ok x) t → ItemsThenEnd steps (t, h) n → ItemsThenEnd steps p ((held_count x - held_count h) + n)
+  pub items_then_end_from : (p : S × Option A) (t : S) (x h : Option A) (n : ℕ) → (h ≡ None) ⊎ (h ≡ x) → GivesHeldFirst steps p (Ok x) t → ItemsThenEnd steps (t, h) n → ItemsThenEnd steps p ((held_count x - held_count h) + n)
   items_then_end_from (s, Some y) t None h n kept g d = absurd (let no = g.0 in cc)
   items_then_end_from (s, Some y) t (Some x) h n kept g d = record { came = d.came; left = d.left; last = d.last; ran = subst (λ (z : S). Yields steps z d.came d.left) g.1 d.ran; ended = d.ended; few = omega (arith, d.few, held_count_one_at_most h) }
   items_then_end_from (s, None) t None h n kept g d = record { came = []; left = s; last = t; ran = refl; ended = g; few = omega arith }
   items_then_end_from (s, None) t (Some x) h n kept g d = record { came = x ∷ d.came; left = d.left; last = d.last; ran = (t, g, d.ran); ended = d.ended; few = omega (arith, d.few, held_count_one_at_most h) }
 
-  items_then_end_none_from : (p : S × Option A) (t : S) → GivesHeldFirst steps p end t → ItemsThenEnd steps p 0
+  pub items_then_end_none_from : (p : S × Option A) (t : S) → GivesHeldFirst steps p end t → ItemsThenEnd steps p 0
   items_then_end_none_from (s, Some y) t g = absurd (let no = g.0 in cc)
   items_then_end_none_from (s, None) t g = record { came = []; left = s; last = t; ran = refl; ended = g; few = omega arith }
 

@@ -12,7 +12,7 @@ use Rattle.fallible_iterator.specs.Laws.Closures.{reaches_reflexive, reaches_by_
 use Rattle.fallible_iterator.specs.Laws.Contract.{lawful_parts}
 use Rattle.fallible_iterator.specs.Laws.Cutting.Fuse.{lawful_fuse}
 use Rattle.fallible_itertools_joins.specs.Laws.SidesTraces.{sides_traced}
-use Rattle.fallible_itertools_joins.specs.Sides.{AsksOfTwo, Join, OfEach, by_ordering, join_answer, join_by, join_rule, left_first, right_first, taken, two_items, fused_contract, GivesHeldFirst, GivesIf, side_remaining, side_gives, Rule, SidesPlace, left_failed, right_failed, both_gave, left_gave, right_gave, left_held_after, right_held_after, place_answer, place_decides, sides_contract}
+use Rattle.fallible_itertools_joins.specs.Sides.{AsksOfTwo, Join, OfEach, by_ordering, join_answer, join_by, join_rule, left_first, right_first, taken, two_items, fused_contract, GivesHeldFirst, GivesIf, side_remaining, side_gives, Rule, SidesPlace, left_failed, right_failed, both_gave, left_gave, right_gave, left_held_after, right_held_after, place_answer, place_decides, Places, places_contract, rule_places, sides_contract}
 use Rattle.fallible_iterator.specs.Laws.Joining.Chain.{both_true_where_cond_true, cond_true_where_both_true}
 use Rattle.fallible_itertools_joins.specs.declared.zip_longest.EitherOrBoth.{EitherOrBoth}
 use Rattle.fallible_itertools_joins.specs.declared.zip_longest.EitherOrBoth.TheVariants.{Both, Left, Right}
@@ -45,7 +45,7 @@ module _ {S A E : Type 0} (m : Contract S A E) where
     pub lenders : m.lenders q.0 ≡ m.lenders p.0
 
   -- a side that consumes so many consumes fewer as well
-  side_kept_fewer_let_go : (p q : S × Option A) {i j : ℕ} → SideKept p q i i → j ≤ i → SideKept p q j j
+  pub side_kept_fewer_let_go : (p q : S × Option A) {i j : ℕ} → SideKept p q i i → j ≤ i → SideKept p q j j
   side_kept_fewer_let_go p q k le = record { can_next = k.can_next; is_finite = k.is_finite; bound = λ n b. let a = k.bound n b in (a.0, a.1, omega (arith, a.2, le)); remaining = λ f. let a = k.remaining f in (a.0, omega (arith, a.1, le)); gives = k.gives; fails = k.fails; lenders = k.lenders }
 
   -- a side that isn't drawn stays
@@ -53,7 +53,7 @@ module _ {S A E : Type 0} (m : Contract S A E) where
   side_kept_where_it_stays p c = record { can_next = c; is_finite = λ h. h; bound = λ n b. (n, b, omega arith); remaining = λ f. (f, omega arith); gives = λ y h. h; fails = λ e h. h; lenders = refl }
 
   -- a side yields its held item
-  side_kept_held_given : (s : S) (x : A) → m.can_next s → SideKept (s, Some x) (s, None) 1 1
+  pub side_kept_held_given : (s : S) (x : A) → m.can_next s → SideKept (s, Some x) (s, None) 1 1
   side_kept_held_given s x c = record { can_next = c; is_finite = λ h. h; bound = λ n b. (b.0, (b.0, b.1, omega arith), b.2); remaining = λ f. (f, omega arith); gives = λ y h. inr h; fails = λ e h. h; lenders = refl }
 
   module _ (l : Lawful m) where
@@ -93,6 +93,10 @@ module _ {S A E : Type 0} (m : Contract S A E) where
 
 -- ---- both sides
 
+-- what may come stays so where more may come of each side
+abbrev pub GivesMore : {A B C : Type 0} → ((A → Type 0) → (B → Type 0) → C → Type 0) → Type 1
+GivesMore {A} {B} {C} gives = (P P' : A → Type 0) (Q Q' : B → Type 0) (z : C) → ((z : A) → P' z → P z) → ((z : B) → Q' z → Q z) → gives P' Q' z → gives P Q z
+
 module _ {A B C E F V : Type 0} (rule : Rule A B C E F V) where
   -- if a rule makes an answer, an item and a failure are those that it may make, and take one item at least of the n that are consumed
   abbrev pub MadeBy : (A → Type 0) → (B → Type 0) → F → ℕ → Answered C E → Type 0
@@ -115,19 +119,19 @@ module _ {A B C E F V : Type 0} (rule : Rule A B C E F V) where
     pub made : (P : A → Type 0) (Q : B → Type 0) (f : F) (x : Option A) (y : Option B) (v : V) (g : F) → OfItem P x → OfItem Q y → rule.decides f x y v g → MadeBy P Q f ((held_count x - held_count (rule.left_held x y v)) + (held_count y - held_count (rule.right_held x y v))) (rule.answer x y v)
     pub askable_less : (P P' : A → Type 0) (Q Q' : B → Type 0) (f : F) → ((z : A) → P' z → P z) → ((z : B) → Q' z → Q z) → rule.askable P Q f → rule.askable P' Q' f
     pub askable_after : {P P' : A → Type 0} {Q Q' : B → Type 0} {f g : F} {x : Option A} {y : Option B} {v : V} → IsDecidedByRule P P' Q Q' f x y v g → rule.askable P Q f → rule.askable P' Q' g
-    pub gives_more : (P P' : A → Type 0) (Q Q' : B → Type 0) (z : C) → ((z : A) → P' z → P z) → ((z : B) → Q' z → Q z) → rule.gives P' Q' z → rule.gives P Q z
+    pub gives_more : GivesMore rule.gives
     pub refuses_more : (P P' : A → Type 0) (Q Q' : B → Type 0) (f : F) (e : E) → ((z : A) → P' z → P z) → ((z : B) → Q' z → Q z) → rule.refuses P' Q' f e → rule.refuses P Q f e
     pub refuses_before : {P P' : A → Type 0} {Q Q' : B → Type 0} {f g : F} {x : Option A} {y : Option B} {v : V} → IsDecidedByRule P P' Q Q' f x y v g → (e : E) → rule.refuses P' Q' g e → rule.refuses P Q f e
 
-module _ {S U A B C E F V : Type 0} (left : Contract S A E) (right : Contract U B E) (rule : Rule A B C E F V) (hint : ℕ × Option ℕ → ℕ × Option ℕ → ℕ × Option ℕ) where
-  abbrev SidesState : Type 0
+module _ {S U A B C E F X : Type 0} (left : Contract S A E) (right : Contract U B E) (there : Places A B C E F X) (hint : ℕ × Option ℕ → ℕ × Option ℕ → ℕ × Option ℕ) where
+  abbrev pub SidesState : Type 0
   SidesState = (S × Option A) × (U × Option B) × F
 
-  abbrev SidesHere : Contract SidesState C E
-  SidesHere = sides_contract left right rule hint
+  abbrev pub SidesHere : Contract SidesState C E
+  SidesHere = places_contract left right there hint
 
   -- an item consumes one item at least, and a failure an item or a failure
-  abbrev OwedFor : SidesState → Answered C E → ℕ → ℕ → Type 0
+  abbrev pub OwedFor : SidesState → Answered C E → ℕ → ℕ → Type 0
   OwedFor p (Ok (Some z)) i d = SidesHere.may_give p z × (1 ≤ i) × (1 ≤ d)
   OwedFor p (Ok None) i d = ⊤
   OwedFor p (Err e) i d = SidesHere.may_fail p e × (1 ≤ d)
@@ -148,31 +152,42 @@ module _ {S U A B C E F V : Type 0} (left : Contract S A E) (right : Contract U 
     on_answer_of_sides (Ok None) o = ((λ n h. let m = bound_after n h in (m.0, m.1, omega (arith, m.2))), (λ f. let m = remaining_is_finite_after f in (m.0, omega (arith, m.1))))
     on_answer_of_sides (Err e) o = (o.0, (λ n h. let m = bound_after n h in (m.0, m.1, omega (arith, m.2))), (λ f. let m = remaining_is_finite_after f in (m.0, omega (arith, m.1, o.1))))
 
-    pub kept_by_draw_where_both_sides_kept : IsLawfulRule rule → (r : Answered C E) → OwedFor p r (i + j) (d + k) → rule.askable (side_gives left q.0) (side_gives right q.1) q.2 → ((e : E) → rule.refuses (side_gives left q.0) (side_gives right q.1) q.2 e → rule.refuses (side_gives left p.0) (side_gives right p.1) p.2 e) → KeptByDraw SidesHere p r q
+    pub kept_by_draw_where_both_sides_kept : GivesMore there.gives → (r : Answered C E) → OwedFor p r (i + j) (d + k) → there.askable (side_gives left q.0) (side_gives right q.1) q.2 → ((e : E) → there.refuses (side_gives left q.0) (side_gives right q.1) q.2 e → there.refuses (side_gives left p.0) (side_gives right p.1) p.2 e) → KeptByDraw SidesHere p r q
     kept_by_draw_where_both_sides_kept w r o askable refuses = record {
       can_next = (a.can_next, b.can_next, askable);
       is_finite = λ h. (a.is_finite h.0, b.is_finite h.1);
       answer = on_answer_of_sides r o;
-      may_give = λ z h. w.gives_more (side_gives left p.0) (side_gives left q.0) (side_gives right p.1) (side_gives right q.1) z a.gives b.gives h;
+      may_give = λ z h. w (side_gives left p.0) (side_gives left q.0) (side_gives right p.1) (side_gives right q.1) z a.gives b.gives h;
       may_fail = λ e h. elim h [ inl x ↦ inl (a.fails e x) | inr y ↦ elim y [ inl z ↦ inr (inl (b.fails e z)) | inr z ↦ inr (inr (refuses e z)) ] ];
       lenders = ap₂ lenders_of_both a.lenders b.lenders;
     }
 
+  pub lawful_places : Lawful left → Lawful right → ((p : SidesState) (r : Answered C E) (q : SidesState) → SidesHere.can_next p → SidesHere.steps p r q → KeptByDraw SidesHere p r q) → Lawful SidesHere
+  lawful_places l m kept = record {
+    kept_by_draw = kept;
+    bounded = λ p. (
+      (λ e. let a = (l.bounded p.0.0).0 e.0 in let b = (m.bounded p.1.0).0 e.1 in ((a.0 + held_count p.0.1) + (b.0 + held_count p.1.1), (a.0, b.0, a.1, b.1, omega arith))),
+      (λ h. ((l.bounded p.0.0).1 (h.1.0, h.1.2), (m.bounded p.1.0).1 (h.1.1, h.1.3))),
+    );
+    traced = sides_traced l.traced m.traced there;
+  }
+
+module _ {S U A B C E F V : Type 0} (left : Contract S A E) (right : Contract U B E) (rule : Rule A B C E F V) (hint : ℕ × Option ℕ → ℕ × Option ℕ → ℕ × Option ℕ) where
   module _ (l : Lawful left) (m : Lawful right) (w : IsLawfulRule rule) where
     -- what the rule makes is owed
-    owed_for_where_made_by_rule : (p : SidesState) (n : ℕ) (r : Answered C E) → MadeBy rule (side_gives left p.0) (side_gives right p.1) p.2 n r → OwedFor p r n n
+    owed_for_where_made_by_rule : (p : SidesState left right (rule_places rule) hint) (n : ℕ) (r : Answered C E) → MadeBy rule (side_gives left p.0) (side_gives right p.1) p.2 n r → OwedFor left right (rule_places rule) hint p r n n
     owed_for_where_made_by_rule p n (Ok (Some z)) o = (o.0, o.1, o.1)
     owed_for_where_made_by_rule p n (Ok None) o = tt
     owed_for_where_made_by_rule p n (Err e) o = (inr (inr o.0), o.1)
 
-    kept_by_draw_place : (p : SidesState) (t : S) (u : U) (g : F) (x : SidesPlace A B E V) → SidesHere.can_next p → GivesIf left.steps p.0 (left_gave x) t → GivesIf right.steps p.1 (right_gave x) u → place_decides rule p.2 x g → KeptByDraw SidesHere p (place_answer rule x) ((t, left_held_after rule p.0.1 x), (u, right_held_after rule p.1.1 x), g)
+    kept_by_draw_place : (p : SidesState left right (rule_places rule) hint) (t : S) (u : U) (g : F) (x : SidesPlace A B E V) → (sides_contract left right rule hint).can_next p → GivesIf left.steps p.0 (left_gave x) t → GivesIf right.steps p.1 (right_gave x) u → place_decides rule p.2 x g → KeptByDraw (sides_contract left right rule hint) p (place_answer rule x) ((t, left_held_after rule p.0.1 x), (u, right_held_after rule p.1.1 x), g)
     kept_by_draw_place p t u g (left_failed e) c a b d =
         let k = side_kept_and_may_fail_where_fails left l p.0 t e c.0 a in
-        rw (b, d) (kept_by_draw_where_both_sides_kept p ((t, None), p.1, p.2) 0 1 0 0 k.0 (side_kept_where_it_stays right p.1 c.1) w (failure e) (inl k.1, omega arith) (w.askable_less (side_gives left p.0) (side_gives left (t, None)) (side_gives right p.1) (side_gives right p.1) p.2 k.0.gives (λ z h. h) c.2) (λ e h. w.refuses_more (side_gives left p.0) (side_gives left (t, None)) (side_gives right p.1) (side_gives right p.1) p.2 e k.0.gives (λ z h. h) h))
+        rw (b, d) (kept_by_draw_where_both_sides_kept left right (rule_places rule) hint p ((t, None), p.1, p.2) 0 1 0 0 k.0 (side_kept_where_it_stays right p.1 c.1) w.gives_more (failure e) (inl k.1, omega arith) (w.askable_less (side_gives left p.0) (side_gives left (t, None)) (side_gives right p.1) (side_gives right p.1) p.2 k.0.gives (λ z h. h) c.2) (λ e h. w.refuses_more (side_gives left p.0) (side_gives left (t, None)) (side_gives right p.1) (side_gives right p.1) p.2 e k.0.gives (λ z h. h) h))
     kept_by_draw_place p t u g (right_failed x e) c a b d =
         let k = side_kept_puts_back left l p.0 t x c.0 a in
         let j = side_kept_and_may_fail_where_fails right m p.1 u e c.1 b in
-        rw d (kept_by_draw_where_both_sides_kept p ((t, x), (u, None), p.2) 0 0 0 1 k j.0 w (failure e) (inr (inl j.1), omega arith) (w.askable_less (side_gives left p.0) (side_gives left (t, x)) (side_gives right p.1) (side_gives right (u, None)) p.2 k.gives j.0.gives c.2) (λ e h. w.refuses_more (side_gives left p.0) (side_gives left (t, x)) (side_gives right p.1) (side_gives right (u, None)) p.2 e k.gives j.0.gives h))
+        rw d (kept_by_draw_where_both_sides_kept left right (rule_places rule) hint p ((t, x), (u, None), p.2) 0 0 0 1 k j.0 w.gives_more (failure e) (inr (inl j.1), omega arith) (w.askable_less (side_gives left p.0) (side_gives left (t, x)) (side_gives right p.1) (side_gives right (u, None)) p.2 k.gives j.0.gives c.2) (λ e h. w.refuses_more (side_gives left p.0) (side_gives left (t, x)) (side_gives right p.1) (side_gives right (u, None)) p.2 e k.gives j.0.gives h))
     kept_by_draw_place p t u g (both_gave x y v) c a b d =
         let h = rule.left_held x y v in
         let i = rule.right_held x y v in
@@ -183,20 +198,13 @@ module _ {S U A B C E F V : Type 0} (left : Contract S A E) (right : Contract U 
         let P = (side_kept_and_of_item_where_given left l p.0 t x c.0 a).1 in
         let Q = (side_kept_and_of_item_where_given right m p.1 u y c.1 b).1 in
         let decided : IsDecidedByRule rule (side_gives left p.0) (side_gives left (t, h)) (side_gives right p.1) (side_gives right (u, i)) p.2 x y v g = record { left_less = k.gives; right_less = j.gives; left_allowed = P; right_allowed = Q; decided = d } in
-        kept_by_draw_where_both_sides_kept p ((t, h), (u, i), g) n n o o k j w (rule.answer x y v) (owed_for_where_made_by_rule p (n + o) (rule.answer x y v) (w.made (side_gives left p.0) (side_gives right p.1) p.2 x y v g P Q d)) (w.askable_after decided c.2) (w.refuses_before decided)
+        kept_by_draw_where_both_sides_kept left right (rule_places rule) hint p ((t, h), (u, i), g) n n o o k j w.gives_more (rule.answer x y v) (owed_for_where_made_by_rule p (n + o) (rule.answer x y v) (w.made (side_gives left p.0) (side_gives right p.1) p.2 x y v g P Q d)) (w.askable_after decided c.2) (w.refuses_before decided)
 
-    kept_by_draw_sides : (p : SidesState) (r : Answered C E) (q : SidesState) → SidesHere.can_next p → SidesHere.steps p r q → KeptByDraw SidesHere p r q
+    kept_by_draw_sides : (p : SidesState left right (rule_places rule) hint) (r : Answered C E) (q : SidesState left right (rule_places rule) hint) → (sides_contract left right rule hint).can_next p → (sides_contract left right rule hint).steps p r q → KeptByDraw (sides_contract left right rule hint) p r q
     kept_by_draw_sides p r ((t, h), (u, k), g) c step = rw (step.2, step.4, step.6) (kept_by_draw_place p t u g step.0 c step.1 step.3 step.5)
 
-    pub lawful_sides : Lawful SidesHere
-    lawful_sides = record {
-      kept_by_draw = kept_by_draw_sides;
-      bounded = λ p. (
-        (λ e. let a = (l.bounded p.0.0).0 e.0 in let b = (m.bounded p.1.0).0 e.1 in ((a.0 + held_count p.0.1) + (b.0 + held_count p.1.1), (a.0, b.0, a.1, b.1, omega arith))),
-        (λ h. ((l.bounded p.0.0).1 (h.1.0, h.1.2), (m.bounded p.1.0).1 (h.1.1, h.1.3))),
-      );
-      traced = sides_traced l.traced m.traced rule;
-    }
+    pub lawful_sides : Lawful (sides_contract left right rule hint)
+    lawful_sides = lawful_places left right (rule_places rule) hint l m kept_by_draw_sides
 
 -- ---- a join
 
@@ -230,7 +238,7 @@ module _ {A B C E F K : Type 0} (j : Join A B C E F K) where
   pub record IsLawfulJoin : Type 1 where
     pub askable_less : (P P' : A → Type 0) (Q Q' : B → Type 0) (f : F) → ((z : A) → P' z → P z) → ((z : B) → Q' z → Q z) → j.askable P Q f → j.askable P' Q' f
     pub refuses_more : (P P' : A → Type 0) (Q Q' : B → Type 0) (f : F) (e : E) → ((z : A) → P' z → P z) → ((z : B) → Q' z → Q z) → j.refuses P' Q' f e → j.refuses P Q f e
-    pub gives_more : (P P' : A → Type 0) (Q Q' : B → Type 0) (z : C) → ((z : A) → P' z → P z) → ((z : B) → Q' z → Q z) → j.gives P' Q' z → j.gives P Q z
+    pub gives_more : GivesMore j.gives
     pub gives_made : (P : A → Type 0) (Q : B → Type 0) (t : EitherOrBoth A B) → OfEach P Q t → j.gives P Q (j.makes t)
     pub after_said : (P : A → Type 0) (Q : B → Type 0) (f g : F) (x : A) (y : B) (v : Result K E) → P x → Q y → j.says f x y v g → AsAskable P Q f g
     pub refuses_said : (P : A → Type 0) (Q : B → Type 0) (f g : F) (x : A) (y : B) (e : E) → P x → Q y → j.says f x y (Err e) g → j.refuses P Q f e
@@ -270,7 +278,7 @@ module _ {A B C E F K : Type 0} (j : Join A B C E F K) where
   }
 
 -- by a closure
-pub is_lawful_join_by : {A B C E F K : Type 0} (call : F → A → B → Result K E → F → Type 0) (takes : F → A → B → Type 0) (order : K → Ordering) (makes : EitherOrBoth A B → C) (gives : (A → Type 0) → (B → Type 0) → C → Type 0) → ((P P' : A → Type 0) (Q Q' : B → Type 0) (z : C) → ((z : A) → P' z → P z) → ((z : B) → Q' z → Q z) → gives P' Q' z → gives P Q z) → ((P : A → Type 0) (Q : B → Type 0) (t : EitherOrBoth A B) → OfEach P Q t → gives P Q (makes t)) → IsLawfulJoin (join_by call takes order makes gives)
+pub is_lawful_join_by : {A B C E F K : Type 0} (call : F → A → B → Result K E → F → Type 0) (takes : F → A → B → Type 0) (order : K → Ordering) (makes : EitherOrBoth A B → C) (gives : (A → Type 0) → (B → Type 0) → C → Type 0) → GivesMore gives → ((P : A → Type 0) (Q : B → Type 0) (t : EitherOrBoth A B) → OfEach P Q t → gives P Q (makes t)) → IsLawfulJoin (join_by call takes order makes gives)
 is_lawful_join_by call takes order makes gives more made = record {
   askable_less = λ P P' Q Q' f p q h. is_callable_after (λ z w. (p z.0 w.0, q z.1 w.1)) reaches_reflexive h;
   refuses_more = λ P P' Q Q' f e p q h. may_answer_where_reached_may_answer (λ z w. (p z.0 w.0, q z.1 w.1)) reaches_reflexive h;
