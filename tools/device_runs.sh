@@ -58,3 +58,10 @@ compare() {
         echo "$1: wanted $wanted, got $got"
     fi
 }
+
+# A run over the file $1; the rest are the words of `compare`.
+over() {
+    begin
+    "$program" <"$1" >"$work/out" 2>"$work/err" || status=$?
+    compare "${@:2}"
+}

@@ -24,31 +24,21 @@ high 258'
 
 build sum_table
 
-begin
-"$program" <"$work/good" >"$work/out" 2>"$work/err" || status=$?
-compare 'one record' 0 "$report" ''
+over "$work/good" 'one record' 0 "$report" ''
 
 begin
 { printf '\1\0\0'; sleep 0.2; printf '\0\2\1\0'; sleep 0.2; printf '\0'; } | "$program" >"$work/out" 2>"$work/err" || status=$?
 compare 'input in pieces' 0 "$report" ''
 
-begin
-"$program" <"$work/none" >"$work/out" 2>"$work/err" || status=$?
-compare 'no record' 0 'records 0
+over "$work/none" 'no record' 0 'records 0
 low 0
 high 0' ''
 
-begin
-"$program" <"$work/bad" >"$work/out" 2>"$work/err" || status=$?
-compare 'a bad record before a cut one' 1 '' 'record 2: the first number is above the second'
+over "$work/bad" 'a bad record before a cut one' 1 '' 'record 2: the first number is above the second'
 
-begin
-"$program" <"$work/cut" >"$work/out" 2>"$work/err" || status=$?
-compare 'a cut record' 5 '' 'record 2: cut short'
+over "$work/cut" 'a cut record' 5 '' 'record 2: cut short'
 
-begin
-"$program" <"$work/long" >"$work/out" 2>"$work/err" || status=$?
-compare 'more records than the buffer has room for' 0 "$long_report" ''
+over "$work/long" 'more records than the buffer has room for' 0 "$long_report" ''
 
 begin
 dd if="$work/long" bs=4093 2>/dev/null | "$program" >"$work/out" 2>"$work/err" || status=$?
@@ -66,9 +56,7 @@ begin
 "$program" <&- >"$work/out" 2>"$work/err" || status=$?
 compare 'input closed' 2 '' 'read failed'
 
-begin
-"$program" </ >"$work/out" 2>"$work/err" || status=$?
-compare 'input a folder' 2 '' 'read failed'
+over / 'input a folder' 2 '' 'read failed'
 
 begin
 "$program" <"$work/good" >&- 2>"$work/err" || status=$?
@@ -167,46 +155,30 @@ printf '7,10\n7,18446744073709551616\n' >"$work/too_large"
 printf '7,10\n7,20\n8,1\n10,\377\n' >"$work/no_text"
 printf '7;10\n7,\303' >"$work/cut_character"
 
-begin
-"$program" <"$work/rows" >"$work/out" 2>"$work/err" || status=$?
-compare 'three rows' 0 "$groups" ''
+over "$work/rows" 'three rows' 0 "$groups" ''
 
 begin
 { printf '7,1'; sleep 0.2; printf '0\r'; sleep 0.2; printf '\n7,+20\n8,1'; } | "$program" >"$work/out" 2>"$work/err" || status=$?
 compare 'rows in pieces' 0 "$groups" ''
 
-begin
-"$program" <"$work/none" >"$work/out" 2>"$work/err" || status=$?
-compare 'no row' 0 'groups
+over "$work/none" 'no row' 0 'groups
 batches' ''
 
-begin
-"$program" <"$work/no_row" >"$work/out" 2>"$work/err" || status=$?
-compare 'a bad row' 1 '' 'row 2: not a key and an amount'
+over "$work/no_row" 'a bad row' 1 '' 'row 2: not a key and an amount'
 
-begin
-"$program" <"$work/empty_line" >"$work/out" 2>"$work/err" || status=$?
-compare 'an empty row' 1 '' 'row 2: not a key and an amount'
+over "$work/empty_line" 'an empty row' 1 '' 'row 2: not a key and an amount'
 
-begin
-"$program" <"$work/too_large" >"$work/out" 2>"$work/err" || status=$?
-compare 'an amount of 2 ^ 64' 1 '' 'row 2: not a key and an amount'
+over "$work/too_large" 'an amount of 2 ^ 64' 1 '' 'row 2: not a key and an amount'
 
-begin
-"$program" <"$work/no_text" >"$work/out" 2>"$work/err" || status=$?
-compare 'a byte 0xff' 1 '' 'byte 17: not UTF-8'
+over "$work/no_text" 'a byte 0xff' 1 '' 'byte 17: not UTF-8'
 
-begin
-"$program" <"$work/cut_character" >"$work/out" 2>"$work/err" || status=$?
-compare 'a character cut short, after a bad row' 1 '' 'row 1: not a key and an amount'
+over "$work/cut_character" 'a character cut short, after a bad row' 1 '' 'row 1: not a key and an amount'
 
 begin
 "$program" <&- >"$work/out" 2>"$work/err" || status=$?
 compare 'rows closed' 2 '' 'read failed'
 
-begin
-"$program" </ >"$work/out" 2>"$work/err" || status=$?
-compare 'rows a folder' 2 '' 'read failed'
+over / 'rows a folder' 2 '' 'read failed'
 
 begin
 "$program" <"$work/rows" >&- 2>"$work/err" || status=$?
