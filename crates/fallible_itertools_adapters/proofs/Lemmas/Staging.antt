@@ -9,7 +9,7 @@ use Rattle.fallible_iterator.specs.Passing.{IfItem}
 use Rattle.fallible_iterator.specs.Folds.{HoldsAtEachTurn, goes_on, DriveExit, Driven, TurnThrough, beside, beside_names}
 use Rattle.fallible_iterator.specs.Laws.Contract.{kept_by_draws_of_one_draw, kept_by_draws_of_no_draw, kept_by_draws_transitive}
 use Rattle.fallible_iterator.specs.Laws.Closures.{reaches_reflexive, reaches_weaken, reaches_by_call_first, is_callable_after}
-use Rattle.fallible_iterator.proofs.Lemmas.Folds.{holds_at_first_turn, holds_each_turn_after_item, driven_by_item_first, driven_end, driven_failure, driven_stop, fold_of_references_drives_values, names_kept}
+use Rattle.fallible_iterator.proofs.Lemmas.Folds.{holds_at_first_turn, holds_each_turn_after_item, driven_by_item_first, driven_end, driven_failure, driven_of_first_break, fold_of_references_drives_values, names_kept}
 use Rattle.fallible_iterator.proofs.Lemmas.Folding.{drained_by_same_steps, holds_each_turn_by_same_steps}
 use Rattle.fallible_itertools_adapters.specs.Staging.{DrawsUpTo, Made, yields, passes_over, due_comes, due_left, stage_meets, stage_step, stop_answer, MayMeet, TakesAll, IsStage, IsStop, EndsInStop, Told, DueTold, MadeTold, DueTakes, MadeTakes, Met, MetTakes, StageTurns}
 use Rattle.fallible_itertools_adapters.specs.Laws.Staging.{may_meet_of_answer, may_meet_before_draws}
@@ -21,7 +21,7 @@ use Rattle.fallible_iterator.specs.Beside.{Beside}
 
 module _ {S A E C R : Type 0} (steps : S → Answered A E → S → Type 0) (turns : C → A → ControlFlow R (Unit {0}) → C → Type 0) where
   pub driven_of_told_break : (s t : S) (a : Answered A E) (why : Answered R E) (c d : C) → steps s a t → Told turns c a (Break why) d → Driven steps turns s c why t d
-  driven_of_told_break s t (Ok (Some y)) why c d step w = rw w.2 (driven_stop y step w.1)
+  driven_of_told_break s t (Ok (Some y)) why c d step w = rw w.2 (driven_of_first_break y step w.1)
   driven_of_told_break s t (Ok None) why c d step w = rw (w.0, w.1) (driven_end step)
   driven_of_told_break s t (Err e) why c d step w = rw (w.0, w.1) (driven_failure step)
 

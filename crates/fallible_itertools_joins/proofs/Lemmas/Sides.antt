@@ -8,7 +8,7 @@ use Rattle.fallible_iterator.specs.Traces.{Answered, Run, Yields, item, failure,
 use Rattle.fallible_iterator.specs.Closing.{closing_step}
 use Rattle.fallible_iterator.specs.Contract.{Contract, Lawful}
 use Rattle.fallible_iterator.specs.Folds.{CallableDriving, Driven}
-use Rattle.fallible_iterator.proofs.Lemmas.Folds.{driven_by_item_first, driven_end, driven_failure, driven_stop, holds_at_first_turn, holds_each_turn_after_item}
+use Rattle.fallible_iterator.proofs.Lemmas.Folds.{driven_by_item_first, driven_end, driven_failure, driven_of_first_break, holds_at_first_turn, holds_each_turn_after_item}
 use Rattle.fallible_iterator.proofs.Lemmas.Loops.{CountsDown}
 use Rattle.std.specs.declared.ops.ControlFlow.{ControlFlow}
 use Rattle.std.specs.declared.ops.ControlFlow.TheVariants.{Continue, Break}
@@ -459,7 +459,7 @@ module _ {S A E C R : Type 0} (m : Contract S A E) (turns : C → A → ControlF
 
     driven_at_last : (r : Answered A E) (answer : Answered R E) (d : C) → m.steps s r t → TurnedOn turns c r (Break answer) d → Driven m.steps turns s c answer t d
     driven_at_last (Ok None) answer d step w = rw (w.0, w.1) (driven_end step)
-    driven_at_last (Ok (Some x)) answer d step w = rw w.2 (driven_stop x step w.1)
+    driven_at_last (Ok (Some x)) answer d step w = rw w.2 (driven_of_first_break x step w.1)
     driven_at_last (Err e) answer d step w = rw (w.0, w.1) (driven_failure step)
 
     pub whole_where_turned_last : {answer : Answered R E} {d : C} → TurnedOn turns c r (Break answer) d → Driven m.steps turns s0 c0 answer t d
