@@ -104,10 +104,6 @@ BatchesOf n (b ∷ c ∷ bs) = (length b ≡ n) × BatchesOf n (c ∷ bs)
 abbrev pub chunks_source : {I A E : Type 0} → Chunks I A E → I
 chunks_source s = s.it
 
--- how many items a batch has
-abbrev pub chunks_size : {I A E : Type 0} → Chunks I A E → ℕ
-chunks_size s = s.stage.0.0.0
-
 -- the stop that is due, if one is
 abbrev pub chunks_due : {I A E : Type 0} → Chunks I A E → Option (Option E)
 chunks_due s = s.stage.1

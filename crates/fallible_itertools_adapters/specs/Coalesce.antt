@@ -52,14 +52,6 @@ pub record KeepsApart {A E : Type 0} (h : A → A → OneOrBoth A E) : Type 0 wh
 abbrev pub coalesce_source : {I A E F : Type 0} → Coalesce I F A E → I
 coalesce_source s = s.it
 
--- the item that is held, if there is one
-abbrev pub coalesce_held : {I A E F : Type 0} → Coalesce I F A E → Option A
-coalesce_held s = s.stage.0.0
-
--- the closure
-abbrev pub coalesce_closure : {I A E F : Type 0} → Coalesce I F A E → F
-coalesce_closure s = s.stage.0.1
-
 -- the stop that is due, if one is
 abbrev pub coalesce_due : {I A E F : Type 0} → Coalesce I F A E → Option (Option E)
 coalesce_due s = s.stage.1

@@ -43,10 +43,6 @@ module _ {A F E : Type 0} (g : Mut F (Bor A × (Bor A × Unit {0})) (Result Bool
 abbrev pub dedup_by_source : {I A E F : Type 0} → DedupBy I F A E → I
 dedup_by_source s = s.it
 
--- the item that is held, if there is one, and the closure
-abbrev pub dedup_by_comparing : {I A E F : Type 0} → DedupBy I F A E → Option A × F
-dedup_by_comparing s = s.stage.0
-
 -- the stop that is due, if one is
 abbrev pub dedup_by_due : {I A E F : Type 0} → DedupBy I F A E → Option (Option E)
 dedup_by_due s = s.stage.1

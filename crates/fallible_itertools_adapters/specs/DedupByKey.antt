@@ -54,10 +54,6 @@ module _ {A K : Type 0} (eq : K → K → Bool) where
 abbrev pub dedup_by_key_source : {I A E K F : Type 0} → DedupByKey I K F A E → I
 dedup_by_key_source s = s.it
 
--- the key and the item that are held, if there are some, and the closure
-abbrev pub dedup_by_key_keying : {I A E K F : Type 0} → DedupByKey I K F A E → Option (K × A) × F
-dedup_by_key_keying s = s.stage.0
-
 -- the stop that is due, if one is
 abbrev pub dedup_by_key_due : {I A E K F : Type 0} → DedupByKey I K F A E → Option (Option E)
 dedup_by_key_due s = s.stage.1

@@ -2,7 +2,7 @@
 use Rattle.std.specs.Prelude.{◌≡◌, ℕ, ◌+◌, ◌-◌, ◌*◌, ◌/◌, ◌≤◌, ◌<◌, ⊤, suc, max, cond, leb, ltb, Bool, true, false, Option, Some, None, Ok, Err, [], ◌∷◌, length, vec_items}
 use Rattle.std.proofs.Common.{refl, sym, ap, subst, arith, length-append, ◌∙◌}
 use Rattle.std.proofs.lemmas.Bool.{leb-false, ltb-true, ltb-false}
-use Rattle.std.proofs.Math.Nat.{div-lt_iff_lt-mul, div-le_self, suc-mul}
+use Rattle.std.proofs.Math.Nat.{div-lt_iff_lt-mul, suc-mul}
 use Rattle.fallible_iterator.specs.Contract.{Contract, parts_as}
 use Rattle.fallible_iterator.specs.Hints.{fitting_sum}
 use Rattle.fallible_iterator.proofs.Lemmas.Hints.Joining.{if_some_fitting_sum_at_least_both}
@@ -28,14 +28,6 @@ begun_cond_at_most n room k m false is few = let more : room < k = leb-false k r
 -- where the items fit into the room and into m batches of n, they begin at most m
 begun_at_most : (n room k m : ℕ) → k ≤ room + m * max n 1 → begun n room k ≤ m
 begun_at_most n room k m few = begun_cond_at_most n room k m (leb k room) refl few
-
-begun_cond_less : (n room k : ℕ) (b : Bool) → leb k room ≡ b → 1 ≤ room → cond b 0 (1 + (k - 1 - room) / max n 1) ≤ k - 1
-begun_cond_less n room k true is some = omega arith
-begun_cond_less n room k false is some = let more : room < k = leb-false k room is in omega (arith, more, div-le_self (k - 1 - room) (max n 1))
-
--- fewer batches are begun than there are items, where one item goes into another
-pub begun_less : (n room k : ℕ) → 1 ≤ room → begun n room k ≤ k - 1
-begun_less n room k some = begun_cond_less n room k (leb k room) refl some
 
 module _ {A E : Type 0} (from : AllocError → E → Type 0) where
   -- so many items are enough for m batches and no more, with the one that is held

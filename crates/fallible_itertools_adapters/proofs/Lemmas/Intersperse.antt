@@ -145,11 +145,11 @@ interspersed_items_grow came due i j le = omega (arith, le)
 
 -- what fits is itself
 fitting_above : (n i : ℕ) → i ≤ n → IfSome (fitting n) (λ m. i ≤ m)
-fitting_above n i le = cond_some_above (ltb n (2 ^ 64))
+fitting_above n i le = above_where_some (ltb n (2 ^ 64))
   where
-    cond_some_above : (b : Bool) → IfSome (cond b (Some n) None) (λ m. i ≤ m)
-    cond_some_above true = le
-    cond_some_above false = tt
+    above_where_some : (b : Bool) → IfSome (cond b (Some n) None) (λ m. i ≤ m)
+    above_where_some true = le
+    above_where_some false = tt
 
 -- how many items come of n items of the source, where none is due
 abbrev all_parted : Bool → ℕ → ℕ

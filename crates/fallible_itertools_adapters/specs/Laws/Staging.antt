@@ -1,16 +1,14 @@
 -- The contract of a stage is lawful where its source's is.
-use Rattle.std.specs.Prelude.{◌≡◌, ℕ, ◌+◌, ◌*◌, ◌≤◌, List, [], ◌∷◌, Option, Some, None, Ok, Err}
+use Rattle.std.specs.Prelude.{◌≡◌, ℕ, ◌+◌, ◌*◌, ◌≤◌, Option, Some, None, Ok, Err}
 use Rattle.std.specs.Iterator.{IsFinite, size}
-use Rattle.std.specs.List.{FoldsTo}
-use Rattle.std.proofs.Common.{refl, sym, ap, arith, inl, inr}
+use Rattle.std.proofs.Common.{refl, ap, arith, inl, inr}
 use Rattle.std.proofs.lemmas.Nat.{mul-le}
 use Rattle.fallible_iterator.specs.Traces.{Answered, item, failure}
 use Rattle.fallible_iterator.specs.Contract.{Contract, OnAnswer, KeptByDraw, KeptByDraws, Lawful}
 use Rattle.fallible_iterator.specs.Closures.{Reaches, MayAnswer}
 use Rattle.fallible_iterator.specs.Laws.Contract.{kept_by_draws_of_one_draw, kept_by_draws_transitive}
 use Rattle.fallible_iterator.specs.Laws.Closures.{reaches_reflexive, reaches_weaken, reaches_by_call_first, may_answer_of_call, may_answer_where_reached_may_answer}
-use Rattle.fallible_itertools_adapters.specs.Staging.{Made, DrawsUpTo, yields, passes_over, due_comes, due_left, items_of, stays_of, due_total, made_total, IsStage, IsDue, IsMade, MayMeet, MayCome, TakesAll, stage_contract}
-use Rattle.fallible_iterator.specs.Passing.{IfItem}
+use Rattle.fallible_itertools_adapters.specs.Staging.{Made, DrawsUpTo, yields, passes_over, due_comes, due_left, items_of, stays_of, due_total, made_total, IsStage, IsDue, IsMade, MayMeet, MayCome, stage_contract}
 use Rattle.fallible_itertools_adapters.specs.Laws.Staged.{stage_traced}
 
 scaled_parts_within_scaled_whole : (c k i n : ℕ) → k + i ≤ n → c * k + c * i ≤ c * n
@@ -44,9 +42,6 @@ module _ {S X D : Type 0} (m : Contract S X D) where
 -- what is made is one answer and what is due after it
 pub parts_equal_where_made_equal : {B L E : Type 0} {r a : Answered B E} {due later : Option L} → ◌≡◌ {A = Made B L E} (Some (r, due)) (Some (a, later)) → (r ≡ a) × (due ≡ later)
 parts_equal_where_made_equal {B = B} {L = L} {E = E} {r = r} {a = a} {due = due} {later = later} e = let same : ◌≡◌ {A = Answered B E × Option L} (r, due) (a, later) = cc in (ap (λ p. p.0) same, ap (λ p. p.1) same)
-
-pub made_equal_where_parts_equal : {B L E : Type 0} {r a : Answered B E} {due later : Option L} → r ≡ a → due ≡ later → ◌≡◌ {A = Made B L E} (Some (r, due)) (Some (a, later))
-made_equal_where_parts_equal same left = rw (same, left) refl
 
 module _ {L B E : Type 0} (comes : L → Option (Answered B E)) where
   pub due_total_of_due_left_is_zero : (later : L) (c : Option (Answered B E)) → comes later ≡ c → (due_total comes items_of (due_left later c) ≡ 0) × (due_total comes stays_of (due_left later c) ≡ 0)
@@ -154,24 +149,3 @@ module _ {S P X D B L E : Type 0} {m : Contract S X D} (l : Lawful m) (comes : L
     bounded = λ p. ((λ e. let k = (l.bounded p.0).0 e in (most * k.0 + held p.1.0 + due_total comes items_of p.1.1, (k.0, k.1, omega arith))), (λ h. (l.bounded p.0).1 ((h.1).0, (h.1).1)));
     traced = stage_traced comes meets m.steps l.traced;
   }
-
--- ---- what holds in each state
-
-module _ {P A V : Type 0} {call : P → A → V → P → Type 0} {Q : A → Type 0} (T : P → Type 0) (keeps : (p : P) (a : A) (v : V) (q : P) → Q a → T p → call p a v q → T q) where
-  kept_by_calls : (made : List (A × V)) (p q : P) → FoldsTo (λ p c q. Q c.0 × call p c.0 c.1 q) p made q → T p → T q
-  kept_by_calls [] p q e t = rw (sym e) t
-  kept_by_calls (c ∷ made) p q w t = kept_by_calls made w.0 q w.2 (keeps p c.0 c.1 w.0 w.1.0 t w.1.1)
-
-  -- what each call keeps holds in each state that calls bring it to
-  pub kept_where_reached : {p q : P} → Reaches call Q p q → T p → T q
-  kept_where_reached {p = p} {q = q} r t = kept_by_calls r.made p q r.by t
-
--- Where what the adapter meets keeps T, and T lets it be called on each item that may come, it may be called on each in each state.
-module _ {S P X D B L E : Type 0} (m : Contract S X D) (meets : P → Answered X D → Made B L E → P → Type 0) (takes : P → X → Type 0) (T : P → Type 0) (s : S) (keeps : (p : P) (a : Answered X D) (made : Made B L E) (q : P) → MayMeet m s a → T p → meets p a made q → T q) (lets : (p : P) (x : X) → m.may_give s x → T p → takes p x) where
-  takes_item_where_may_meet : (p : P) (a : Answered X D) → MayMeet m s a → T p → IfItem (takes p) a
-  takes_item_where_may_meet p (Ok (Some x)) may t = lets p x may t
-  takes_item_where_may_meet p (Ok None) may t = tt
-  takes_item_where_may_meet p (Err e) may t = tt
-
-  pub takes_all_where_reached : (p : P) → T p → TakesAll m meets takes s p
-  takes_all_where_reached p t = record { at = λ q a reached may. takes_item_where_may_meet q a may (kept_where_reached T keeps reached t) }

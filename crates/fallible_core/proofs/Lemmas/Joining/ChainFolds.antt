@@ -21,9 +21,6 @@ still_drawn_is_both Both second first = refl
 still_drawn_is_both FirstAlone second first = absurd (first refl)
 still_drawn_is_both SecondAlone second first = absurd (second refl)
 
-pub both_not_second : {d : StillDrawn} → d ≡ Both → d ≡ SecondAlone → ⊥
-both_not_second is second = absurd cc
-
 -- from the back the second comes first
 pub sides_back_is_never_second_alone : (d : StillDrawn) → (d ≡ FirstAlone → ⊥) → sides_back d ≡ SecondAlone → ⊥
 sides_back_is_never_second_alone Both first e = absurd cc
