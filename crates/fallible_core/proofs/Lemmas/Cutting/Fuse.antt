@@ -1,4 +1,4 @@
--- The runs of `Fuse` are the traces that its definition names, and what it lists.
+-- What `Fuse` lists.
 use Rattle.std.specs.Prelude.{◌≡◌, Bool, true, false, List, [], ◌∷◌, Result, Ok, Err}
 use Rattle.std.proofs.Common.{refl, sym, ap, subst, ◌∙◌}
 use Rattle.fallible_contract.specs.Contract.{Contract, parts_as}
