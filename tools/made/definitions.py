@@ -1,33 +1,24 @@
-"""The tables of docs/DEFINITIONS.md: the definition of each type over whole traces, and its contract, by their sentences."""
+"""The tables of docs/DEFINITIONS.md: the definition of each type over whole traces, by its sentences."""
 
 import re
 
 from made import index
 from made.tree import code_of_library
 
-HEAD = "| {} | Its trace | Its contract |\n|---|---|---|"
+HEAD = "| Type | Its trace |\n|---|---|"
 NAMES = (
     "definitions of sources", "definitions of adapters", "definitions of adapters that join",
-    "definitions of fallible_itertools", "definitions that types share",
+    "definitions of fallible_itertools",
 )
 STRUCT = re.compile(r"^pub struct (\w+)", re.MULTILINE)
 FIELD = re.compile(r"^  -- (.*)\n  pub (\w+) :", re.MULTILINE)
 RECORDS = {"fields of Contract": "Contract", "fields of Ends": "Ends"}
 TWO_ENDS = re.compile(r"\bDoubleEndedFallibleIterator\s+for (&mut I|\w+)")
-# What a type lists from both ends is said before its block of `Listed`.
-LISTED = re.compile(r"^/// ([^\n]+)\nimpl\b[^{]*?\bListed\s+for (&mut I|\w+)", re.MULTILINE)
 
 # The words of a file that say a part of a definition and are no trace.
-PARTS = {
-    "ByNumber": ["KeptByNumber"],
-    "Cycle": ["Laps"],
-    "Flatten": ["Finished", "FinishedPart"],
-    "MergeTree": ["TreeDraws"],
-    "Peekable": ["held_of", "peekable_step_back", "Peeks", "NextIf"],
-    "Staging": ["DrawsUpTo", "stage_step"],
-}
-# Those that say a part of a contract.
-OF_CONTRACTS = {"Chain": ["chain_bound"], "Flatten": ["FlattenNumber"]}
+PARTS = {"Cycle": ["Laps"], "Peekable": ["peekable_step_back"]}
+# Types that consumers make, and no caller sees.
+INNER = ("Keyed", "Parted")
 # How a contract's sentence ends with its hint.
 HINTED = re.compile(r"(?:^|, and )(?:its hint (?:has|is) |has the source's hint).*")
 PARTS_ARE = re.compile(r" The parts are [^.]*\.?")
@@ -35,10 +26,8 @@ PARTS_ARE = re.compile(r" The parts are [^.]*\.?")
 FRAGMENT = re.compile(r"(?:with|which|by|and) ")
 
 
-def table_of(crate, place, types):
-    """The name of the table that a file of `specs/` is in."""
-    if place.rsplit("/", 1)[-1] not in types:
-        return "definitions that types share"
+def table_of(crate, place):
+    """The name of the table that a type's file of `specs/` is in."""
     if crate == "fallible_iterator":
         return "definitions of sources"
     if crate not in ("fallible_contract", "fallible_core"):
@@ -62,21 +51,19 @@ def cell(name, words):
     return " ".join(said).replace("|", "\\|") or "–"
 
 
-def line(name, groups, shared):
-    """The line of a type or of what types share; none if the file has no trace or, of a type, no contract either."""
+def line(name, groups):
+    """The line of a type: its traces, or where its file has none its contracts; none if it has neither."""
     named = [(group[0], sentence) for group, sentence in groups]
     traces = sorted((each for each in named if each[0].endswith("Trace")), key=lambda each: not each[1].startswith(f"`{name}`"))
     traces += [each for each in named if each[0] in PARTS.get(name, [])]
     contracts = sorted((each for each in named if each[0].endswith("_contract")), key=lambda each: f"`{name}`" not in each[1])
-    contracts += [each for each in named if each[0] in OF_CONTRACTS.get(name, [])]
-    if not traces and (shared or not contracts):
+    words = traces or contracts
+    if not words or name in INNER:
         return None
-    for said in (cell(name, words) for words in (traces, contracts) if not shared and words):
-        if FRAGMENT.match(said):
-            raise ValueError(f"{name}: the sentence {said!r} of its definition can't be read by itself")
-    if shared:
-        return f"| `{name}` | {cell('', [('', ''), *traces])} | {cell('', [('', ''), *contracts])} |"
-    return f"| `{name}` | {cell(name, traces)} | {cell(name, contracts)} |"
+    said = cell(name, words)
+    if FRAGMENT.match(said):
+        raise ValueError(f"{name}: the sentence {said!r} of its definition can't be read by itself")
+    return f"| `{name}` | {said} |"
 
 
 def fields(crates, record):
@@ -88,25 +75,25 @@ def fields(crates, record):
 
 
 def two_ends(crates):
-    """A line for each type that has two ends: what it lists from both."""
+    """The types that have two ends."""
     texts = [path.read_text(encoding="utf-8") for path in code_of_library(crates)]
-    lists = {name: said for text in texts for said, name in LISTED.findall(text)}
     found = sorted({name for text in texts for name in TWO_ENDS.findall(text)})
-    return ["| Type | From both ends it lists |\n|---|---|", *(f"| `{name}` | {lists.get(name, '–')} |" for name in found)] if found else [""]
+    return [", ".join(f"`{name}`" for name in found) + "." if found else ""]
 
 
 def tables(crates):
     """The lines of each table, by its name."""
     types = {name for path in code_of_library(crates) for name in STRUCT.findall(path.read_text(encoding="utf-8"))}
-    made = {name: [HEAD.format("File of `specs/`" if name == NAMES[-1] else "Type")] for name in NAMES}
+    made = {name: [HEAD] for name in NAMES}
     for crate, place, path in index.files(crates):
-        table = table_of(crate, place, types)
-        found = line(place.rsplit("/", 1)[-1], list(index.words(path)), table == NAMES[-1])
-        trace = found.split(" | ")[1] if found else "–"
-        if trace != "–" and any(row.split(" | ")[1] == trace for row in made[table]):
-            raise ValueError(f"{place.rsplit('/', 1)[-1]}: its trace has the sentence of another's: {trace}")
-        # of nests of adapters the traces are joined, and define none
-        if found and place != "Nests":
-            made[table].append(found)
+        name = place.rsplit("/", 1)[-1]
+        found = line(name, list(index.words(path))) if name in types else None
+        if not found:
+            continue
+        rows = made[table_of(crate, place)]
+        said = found.split(" | ", 1)[1]
+        if any(row.split(" | ", 1)[1] == said for row in rows[1:]):
+            raise ValueError(f"{name}: its trace has the sentence of another's: {said.removesuffix(' |')}")
+        rows.append(found)
     made |= {name: fields(crates, record) for name, record in RECORDS.items()}
     return {**made, "types with two ends": two_ends(crates)}
