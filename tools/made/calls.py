@@ -103,6 +103,8 @@ class Row:
         text = shown + SAID_OF.get(word, "") + where
         if word == "ListsForGood" and shown + where in cells:
             cells[cells.index(shown + where)] = text
+        elif word == "ListsForGood" and shown in cells:
+            cells.append(SAID_OF[word].removeprefix(", ") + where)
         elif text not in cells:
             cells.append(text)
 

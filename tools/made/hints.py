@@ -7,7 +7,8 @@ from made import code
 # the fields that hold a second source
 SECOND = ("second", "right")
 # Private code in the hint of a type, and what a caller calls it. A word that is no field has its sentence in WORDS.
-DUE, SIDES = ("`stage.1` is `Some(None)`", "an end is due"), [("left.hint()", "and_held((L, U))")]
+# Of an end that is due the page itself says the hint.
+DUE, SIDES = ("; `(0, Some(0))` if `stage.1` is `Some(None)`", ""), [("left.hint()", "and_held((L, U))")]
 SAID = {
     "Chain": [("`still_drawn` is `Both`", "both are drawn"), ("`still_drawn` is `FirstAlone`", "the first alone is drawn"),
               ("`still_drawn` is `SecondAlone`", "the second alone is drawn")],
