@@ -115,14 +115,12 @@ def types(crates):
     """The table of the types. Those with the same row share it."""
     shared = {}
     for kind, cells in columns(crates).items():
-        written = [(name, cells[name]) for name in HIDDEN[2:] if name in cells]
-        others = [text if f"`{name}`" in text else f"`{name}`: {text}" for name, text in written]
         drawn = cells.get("next", "") + (f"; `next_back`: {cells['next_back']}" if "next_back" in cells else "")
         back = cells.get("drive_back", "–" if "next_back" in cells else "")
-        row = (cells.get("drive", "–"), back, "; ".join(others) or "–", drawn)
+        row = (cells.get("drive", "–"), back, cells.get("drive_to", "–"), drawn)
         shared.setdefault(row, []).append(kind)
     rows = [f"| {', '.join(f'`{kind}`' for kind in kinds)} | {' | '.join(row)} |" for row, kinds in shared.items()]
-    return ["| Type | `drive` | `drive_back` | Others | `next` |\n|---|---|---|---|---|", *rows]
+    return ["| Type | `drive` | `drive_back` | `drive_to` | `next` |\n|---|---|---|---|---|", *rows]
 
 
 def goes_through(name, functions, found, seen=()):
