@@ -17,8 +17,9 @@ TWO_ENDS = re.compile(r"\bDoubleEndedFallibleIterator\s+for (&mut I|\w+)")
 
 # The words of a file that say a part of a definition and are no trace.
 PARTS = {"Cycle": ["Laps"], "Peekable": ["peekable_step_back"]}
-# Types that consumers make, and no caller sees.
+# Types that consumers make, and no caller sees; and traces of parts, of which the type's own sentence tells.
 INNER = ("Keyed", "Parted")
+REPEATED = {"Chain": "JoinedTrace", "PadUsing": "IndexTrace"}
 # How a contract's sentence ends with its hint.
 HINTED = re.compile(r"(?:^|, and )(?:its hint (?:has|is) |has the source's hint).*")
 PARTS_ARE = re.compile(r" The parts are [^.]*\.?")
@@ -54,7 +55,7 @@ def cell(name, words):
 def line(name, groups):
     """The line of a type: its traces, or where its file has none its contracts; none if it has neither."""
     named = [(group[0], sentence) for group, sentence in groups]
-    traces = sorted((each for each in named if each[0].endswith("Trace")), key=lambda each: not each[1].startswith(f"`{name}`"))
+    traces = sorted((each for each in named if each[0].endswith("Trace") and each[0] != REPEATED.get(name)), key=lambda each: not each[1].startswith(f"`{name}`"))
     traces += [each for each in named if each[0] in PARTS.get(name, [])]
     contracts = sorted((each for each in named if each[0].endswith("_contract")), key=lambda each: f"`{name}`" not in each[1])
     words = traces or contracts

@@ -1,4 +1,6 @@
-"""docs/LAWS.md: each law, with the first sentence of its comment. Laws whose sentences differ in the type alone share one."""
+"""docs/LAWS.md: each law, with the first sentence of its comment.
+
+Laws whose sentences differ in the type alone share one. Of the other laws of a type's hint the names stand together."""
 
 import re
 
@@ -62,9 +64,10 @@ def page(crates):
             alike.setdefault(said, []).append(name)
     alike = {said: names for said, names in alike.items() if len(names) > 1}
     shared = {name for names in alike.values() for name in names}
+    own = [name for _, name, comment in found if name not in shared and name.startswith("law_hints_") and of_type(name, comment) != comment]
     lines, last = [HEAD.rstrip("\n")], None
     for crate, name, comment in found:
-        if name in shared:
+        if name in shared or name in own:
             continue
         if crate != last:
             last = crate
@@ -73,6 +76,8 @@ def page(crates):
     if alike:
         lines.append(SHARED)
         lines += [f"- {', '.join(f'`{name}`' for name in names)}: {said}" for said, names in alike.items()]
+    if own:
+        lines.append(f"- {', '.join(f'`{name}`' for name in own)}: when each hint of *T* is sound.")
     return "\n".join(lines) + "\n"
 
 
