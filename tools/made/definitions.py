@@ -1,70 +1,37 @@
-"""The tables of docs/DEFINITIONS.md: the definition of each type over whole traces, by its sentences."""
+"""The lists of docs/DEFINITIONS.md: each type with its place in docs/INDEX.md, where its definition stands, and the types with two ends.
+
+The sentence over a type's trace can be read by itself, and is none of another's."""
 
 import re
 
 from made import index
 from made.tree import code_of_library
 
-HEAD = "| Type | Its trace |\n|---|---|"
-NAMES = (
-    "definitions of sources", "definitions of adapters", "definitions of adapters that join",
-    "definitions of fallible_itertools",
-)
+NAMES = ("sources defined", "adapters defined", "joining adapters defined", "adapters of fallible_itertools defined")
 STRUCT = re.compile(r"^pub struct (\w+)", re.MULTILINE)
 FIELD = re.compile(r"^  -- (.*)\n  pub (\w+) :", re.MULTILINE)
 RECORDS = {"fields of Contract": "Contract", "fields of Ends": "Ends"}
 TWO_ENDS = re.compile(r"\bDoubleEndedFallibleIterator\s+for (&mut I|\w+)")
 
-# The words of a file that say a part of a definition and are no trace.
-PARTS = {"Cycle": ["Laps"], "Peekable": ["peekable_step_back"]}
-# Types that consumers make, and no caller sees; and traces of parts, of which the type's own sentence tells.
+# Types that consumers make, and no caller sees.
 INNER = ("Keyed", "Parted")
-REPEATED = {"Chain": "JoinedTrace", "PadUsing": "IndexTrace"}
-# How a contract's sentence ends with its hint.
-HINTED = re.compile(r"(?:^|, and )(?:its hint (?:has|is) |has the source's hint).*")
-PARTS_ARE = re.compile(r" The parts are [^.]*\.?")
 # How a sentence begins that can't be read by itself.
 FRAGMENT = re.compile(r"(?:with|which|by|and) ")
 
 
-def table_of(crate, place):
-    """The name of the table that a type's file of `specs/` is in."""
+def list_of(crate, place):
+    """The name of the list that a type's file of `specs/` is in."""
     if crate == "fallible_iterator":
-        return "definitions of sources"
+        return NAMES[0]
     if crate not in ("fallible_contract", "fallible_core"):
-        return "definitions of fallible_itertools"
-    return "definitions of adapters that join" if place.startswith("Joining/") else "definitions of adapters"
+        return NAMES[3]
+    return NAMES[2] if place.startswith("Joining/") else NAMES[1]
 
 
-def without_type(name, sentence):
-    """A sentence without the name of the type that it begins with, or of the contract that it is of, and without its hint, which CALLING has."""
-    said = re.sub(rf"^`{name}`(?:: |'s? contract\.? ?(?:: |, |$|(?=\w)))", "", sentence)
-    return HINTED.sub("", re.sub(r"^The contract(?:: | of `\w+`\. )", "", said))
-
-
-def cell(name, words):
-    """The sentences of words, of which the first goes without its name if it is of the type. INDEX tells what its parts are."""
-    said = []
-    for place, (word, sentence) in enumerate((word, PARTS_ARE.sub("", sentence)) for word, sentence in words):
-        own = place == 0 and (f"`{name}`" in sentence.split(".")[0] or not sentence.startswith(("A ", "The ")))
-        shown = without_type(name, sentence).rstrip(".")
-        said += [f"{shown}." if own else f"`{word}`: {shown}."] if shown else []
-    return " ".join(said).replace("|", "\\|") or "–"
-
-
-def line(name, groups):
-    """The line of a type: its traces, or where its file has none its contracts; none if it has neither."""
-    named = [(group[0], sentence) for group, sentence in groups]
-    traces = sorted((each for each in named if each[0].endswith("Trace") and each[0] != REPEATED.get(name)), key=lambda each: not each[1].startswith(f"`{name}`"))
-    traces += [each for each in named if each[0] in PARTS.get(name, [])]
-    contracts = sorted((each for each in named if each[0].endswith("_contract")), key=lambda each: f"`{name}`" not in each[1])
-    words = traces or contracts
-    if not words or name in INNER:
-        return None
-    said = cell(name, words)
-    if FRAGMENT.match(said):
-        raise ValueError(f"{name}: the sentence {said!r} of its definition can't be read by itself")
-    return f"| `{name}` | {said} |"
+def trace_of(name, groups):
+    """The sentence over a type's trace, without the type's name; none if its file has no trace."""
+    said = [sentence for group, sentence in groups if group[0] == f"{name}Trace"]
+    return said[0].removeprefix(f"`{name}`: ") if said else None
 
 
 def fields(crates, record):
@@ -83,18 +50,20 @@ def two_ends(crates):
 
 
 def tables(crates):
-    """The lines of each table, by its name."""
+    """The lines of each table and list, by its name."""
     types = {name for path in code_of_library(crates) for name in STRUCT.findall(path.read_text(encoding="utf-8"))}
-    made = {name: [HEAD] for name in NAMES}
+    listed, traces = {name: [] for name in NAMES}, set()
     for crate, place, path in index.files(crates):
-        name = place.rsplit("/", 1)[-1]
-        found = line(name, list(index.words(path))) if name in types else None
-        if not found:
+        name, groups = place.rsplit("/", 1)[-1], list(index.words(path))
+        if name not in types or name in INNER or not any(group[0].endswith(("Trace", "_contract")) for group, _ in groups):
             continue
-        rows = made[table_of(crate, place)]
-        said = found.split(" | ", 1)[1]
-        if any(row.split(" | ", 1)[1] == said for row in rows[1:]):
-            raise ValueError(f"{name}: its trace has the sentence of another's: {said.removesuffix(' |')}")
-        rows.append(found)
+        trace = trace_of(name, groups)
+        if trace and FRAGMENT.match(trace):
+            raise ValueError(f"{name}: the sentence {trace!r} of its definition can't be read by itself")
+        if trace and trace in traces:
+            raise ValueError(f"{name}: its trace has the sentence of another's: {trace}")
+        traces.add(trace)
+        listed[list_of(crate, place)].append(f"[`{name}`](INDEX.md#{place.replace('/', '').lower()})")
+    made = {name: [", ".join(links) + "." if links else ""] for name, links in listed.items()}
     made |= {name: fields(crates, record) for name, record in RECORDS.items()}
     return {**made, "types with two ends": two_ends(crates)}
