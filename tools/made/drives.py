@@ -139,7 +139,7 @@ def goes_through(name, functions, found, seen=()):
 
 
 def finals(crates):
-    """The table of the traits' calls by the hidden call that each goes through."""
+    """The table of the traits' calls by the hidden call that each goes through. Most go through `drive`, and aren't named."""
     files = code_of_library(crates)
     found, functions, rows = helpers(files), {}, {}
     for path in files:
@@ -151,4 +151,5 @@ def finals(crates):
         if through:
             rows.setdefault(", ".join(through), []).append(f"`{name}`")
     order = sorted(rows, key=lambda through: [*(f"`{name}`" for name in HIDDEN), through].index(through))
-    return ["| Goes through | Calls |\n|---|---|", *(f"| {through} | {', '.join(rows[through])} |" for through in order)]
+    named = {through: "all others" if through == "`drive`" else ", ".join(rows[through]) for through in order}
+    return ["| Goes through | Calls |\n|---|---|", *(f"| {through} | {calls} |" for through, calls in named.items())]
