@@ -5,7 +5,7 @@ ghost use Rattle.fallible_iterator.specs.Laws.Contract.{lawful_parts};
 ghost use Rattle.fallible_itertools_joins.specs.MergeJoinBy.{merge_join_by_contract, merge_join_by_made, merge_join_by_parts};
 ghost use Rattle.fallible_itertools_joins.specs.Laws.MergeJoinBy.{lawful_merge_join_by};
 
-use crate::sides::{DrawsBoth, Holding, turned};
+use crate::sides::{DrawsBoth, JoinSide, turned};
 use crate::zip_longest::{EitherOrBoth, greater};
 use fallible_iterator::extending::sum;
 use fallible_iterator::{FallibleIterator, Fuse, Turn};
@@ -15,8 +15,8 @@ use std::ops::ControlFlow;
 /// The items of two sources, each fused, in order. A closure compares an item of each: `Less` yields the left's alone, `Greater` the right's alone, and `Equal` both. A failure of a side is yielded, and loses nothing that is buffered. If the closure fails, its failure is yielded, and the two items are lost.
 #[derive(Clone, Debug, Drop)]
 pub struct MergeJoinBy<T: FallibleIterator, U: FallibleIterator<Error = T::Error>, F> {
-    pub(crate) left: Holding<Fuse<T>, T::Item>,
-    pub(crate) right: Holding<Fuse<U>, U::Item>,
+    pub(crate) left: JoinSide<Fuse<T>, T::Item>,
+    pub(crate) right: JoinSide<Fuse<U>, U::Item>,
     pub(crate) f: F,
 }
 
@@ -27,8 +27,8 @@ impl<T: FallibleIterator, U: FallibleIterator<Error = T::Error>, F> MergeJoinBy<
         ensures { merge_join_by_parts result ≡ ((left, None), (right, None), f) }
     {
         MergeJoinBy {
-            left: Holding::new(left),
-            right: Holding::new(right),
+            left: JoinSide::new(left),
+            right: JoinSide::new(right),
             f,
         }
     }

@@ -1,6 +1,6 @@
 // A side of what joins two sources, fuses each and buffers at most one item of each; and what a fold of both makes of an answer.
 ghost use Rattle.std.specs.Prelude.{◌≡◌, Option, Result, None, Some, Ok};
-ghost use Rattle.fallible_itertools_joins.specs.Sides.{GivesHeldFirst, SideHints, TurnedOn, holding_held, holding_parts, holding_source};
+ghost use Rattle.fallible_itertools_joins.specs.Sides.{GivesHeldFirst, SideHints, TurnedOn, side_held, side_parts, side_source};
 
 use fallible_iterator::extending::sum;
 use fallible_iterator::{FallibleIterator, Turn};
@@ -8,31 +8,31 @@ use std::ops::ControlFlow;
 
 // A source, and its buffered item, if there is one.
 #[derive(Clone, Debug, Drop)]
-pub(crate) struct Holding<I, X> {
+pub(crate) struct JoinSide<I, X> {
     pub(crate) it: I,
     pub(crate) held: Option<X>,
 }
 
-impl<I, X> Holding<I, X> {
+impl<I, X> JoinSide<I, X> {
     // The source, of which nothing is buffered.
     #[inline(always)]
-    pub(crate) fn new(it: I) -> Holding<I, X>
-        ensures { holding_parts result ≡ (it, None) }
+    pub(crate) fn new(it: I) -> JoinSide<I, X>
+        ensures { side_parts result ≡ (it, None) }
     {
-        Holding { it, held: None }
+        JoinSide { it, held: None }
     }
 }
 
-impl<I: FallibleIterator> Holding<I, I::Item>
+impl<I: FallibleIterator> JoinSide<I, I::Item>
 where
     I::Item: Drop,
 {
     // Takes the buffered item without a draw, or draws once.
     pub(crate) fn give(&mut self) -> Result<Option<I::Item>, I::Error>
-        requires { I.contract.can_next (holding_source self.old) }
-        ensures given { GivesHeldFirst I.contract.steps (holding_parts self.old)
-            result (holding_source self.new) }
-        ensures let_go { holding_held self.new ≡ None }
+        requires { I.contract.can_next (side_source self.old) }
+        ensures given { GivesHeldFirst I.contract.steps (side_parts self.old)
+            result (side_source self.new) }
+        ensures let_go { side_held self.new ≡ None }
     {
         match self.held.take() {
             Some(x) => Ok(Some(x)),
@@ -42,7 +42,7 @@ where
 
     // The source's hint, one more on each bound if an item is buffered.
     pub(crate) fn hint(&self) -> (usize, Option<usize>)
-        ensures { SideHints I.contract (holding_parts self.now) result }
+        ensures { SideHints I.contract (side_parts self.now) result }
     {
         let hint = self.it.size_hint();
         match &self.held {

@@ -4,7 +4,7 @@ ghost use Rattle.fallible_iterator.specs.Contract.{parts_as};
 ghost use Rattle.fallible_itertools_joins.specs.ZipLongest.{both_of, hint_greater, only_left, left_of, longest, only_right, right_of, zip_longest_contract, zip_longest_parts};
 ghost use Rattle.fallible_itertools_joins.specs.Laws.ZipLongest.{lawful_zip_longest_parts};
 
-use crate::sides::{DrawsBoth, Holding, turned};
+use crate::sides::{DrawsBoth, JoinSide, turned};
 use fallible_iterator::{FallibleIterator, Fuse, Turn};
 use std::ops::ControlFlow;
 
@@ -152,7 +152,7 @@ impl<A, B> EitherOrBoth<A, B> {
 /// The items of two sources, each fused, by their positions, up to `Ok(None)` of both. If the left fails, the right isn't drawn. If the right fails, the left's item is buffered for the next call.
 #[derive(Clone, Debug, Drop)]
 pub struct ZipLongest<T: FallibleIterator, U> {
-    pub(crate) left: Holding<Fuse<T>, T::Item>,
+    pub(crate) left: JoinSide<Fuse<T>, T::Item>,
     pub(crate) right: Fuse<U>,
 }
 
@@ -163,7 +163,7 @@ impl<T: FallibleIterator, U: FallibleIterator<Error = T::Error>> ZipLongest<T, U
         ensures { zip_longest_parts {B = U.Item} result ≡ ((left, None), (right, None), tt) }
     {
         ZipLongest {
-            left: Holding::new(left),
+            left: JoinSide::new(left),
             right,
         }
     }

@@ -11,7 +11,7 @@ use Rattle.fallible_itertools_adapters.specs.BeforeStop.{HintsWhereHeld, held_on
 use Rattle.fallible_itertools_adapters.specs.Coalesce.{KeepsApart, OneOrBoth, coalesce_call, coalesce_contract, coalesce_due, coalesce_parts, coalesce_plan, coalesce_source, coalesce_takes, coalesced, coalesced_by}
 use Rattle.fallible_itertools_adapters.specs.Dedup.{dedup_stops}
 use Rattle.fallible_itertools_adapters.specs.Laws.Coalesce.{coalesce_plan_buffers}
-use Rattle.fallible_itertools_adapters.specs.Plan.{Making, plan_can}
+use Rattle.fallible_itertools_adapters.specs.Plan.{Transition, plan_can}
 use Rattle.fallible_itertools_adapters.specs.Staged.{as_function, followed}
 use Rattle.fallible_itertools_adapters.specs.Staging.{stop_comes}
 use Rattle.fallible_itertools_adapters.proofs.Lemmas.BeforeStop.{Apart, adjacent_items_apart, end_before_stop, hints_where_one_held, parted_by_failure}
@@ -54,8 +54,8 @@ module _ {A E : Type 0} (h : A → A → OneOrBoth A E) where
   abbrev on_both : A × A → OneOrBoth A E
   on_both both = h both.0 both.1
 
-  abbrev made_of : Option A → A → Making (Option A × Unit {0}) A (Option E) E
-  made_of held x = followed (as_function on_both) (coalesce_plan held x) tt
+  abbrev emitted_of : Option A → A → Transition (Option A × Unit {0}) A (Option E) E
+  emitted_of held x = followed (as_function on_both) (coalesce_plan held x) tt
 
   pub coalesced_in_parts : (a : List (Result A E)) (e : E) (b : List (Result A E)) → coalesced h (a ++ Err e ∷ b) ≡ coalesced h a ++ Err e ∷ coalesced h b
   unfolding coalesced
@@ -77,7 +77,7 @@ module _ {A E : Type 0} (h : A → A → OneOrBoth A E) where
     unfolding coalesced
     adjacent_coalesced_unmerged l = adjacent_items_apart on_both coalesce_plan (λ held. held) (λ held. None) StaysApart (λ held. ⊤) at_item (λ held x good. tt) (λ held. tt) l None tt
       where
-        at_item : (held : Option A) (x : A) → ⊤ → Apart StaysApart held (made_of held x).0 (made_of held x).1.0
+        at_item : (held : Option A) (x : A) → ⊤ → Apart StaysApart held (emitted_of held x).0 (emitted_of held x).1.0
         at_item None x good = λ z after. absurd after
         at_item (Some y) x good = coalesced_by_apart y x (h y x) refl
 

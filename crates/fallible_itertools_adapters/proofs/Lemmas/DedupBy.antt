@@ -12,7 +12,7 @@ use Rattle.fallible_itertools_adapters.specs.BeforeStop.{HintsWhereHeld, held_on
 use Rattle.fallible_itertools_adapters.specs.Dedup.{dedup_stops}
 use Rattle.fallible_itertools_adapters.specs.DedupBy.{dedup_by_contract, dedup_by_due, dedup_by_parts, dedup_by_plan, dedup_by_source, deduped_by, same_by, same_call, same_takes}
 use Rattle.fallible_itertools_adapters.specs.Laws.DedupBy.{dedup_by_plan_buffers}
-use Rattle.fallible_itertools_adapters.specs.Plan.{Making, plan_can}
+use Rattle.fallible_itertools_adapters.specs.Plan.{Transition, plan_can}
 use Rattle.fallible_itertools_adapters.specs.Staged.{as_function, followed}
 use Rattle.fallible_itertools_adapters.specs.Staging.{stop_comes}
 use Rattle.fallible_itertools_adapters.proofs.Lemmas.BeforeStop.{Apart, adjacent_items_apart, end_before_stop, hints_where_one_held, parted_by_failure}
@@ -55,8 +55,8 @@ module _ {A E : Type 0} (h : A → A → Result Bool E) where
   abbrev on_both : A × A → Result Bool E
   on_both both = h both.0 both.1
 
-  abbrev made_of : Option A → A → Making (Option A × Unit {0}) A (Option E) E
-  made_of held x = followed (as_function on_both) (dedup_by_plan held x) tt
+  abbrev emitted_of : Option A → A → Transition (Option A × Unit {0}) A (Option E) E
+  emitted_of held x = followed (as_function on_both) (dedup_by_plan held x) tt
 
   pub deduped_by_in_parts : (a : List (Result A E)) (e : E) (b : List (Result A E)) → deduped_by h (a ++ Err e ∷ b) ≡ deduped_by h a ++ Err e ∷ deduped_by h b
   unfolding deduped_by
@@ -74,7 +74,7 @@ module _ {A E : Type 0} (h : A → A → Result Bool E) where
   unfolding deduped_by
   adjacent_deduped_by_differ l = adjacent_items_apart on_both dedup_by_plan (λ held. held) (λ held. None) FoundToDiffer (λ held. ⊤) at_item (λ held x good. tt) (λ held. tt) l None tt
     where
-      at_item : (held : Option A) (x : A) → ⊤ → Apart FoundToDiffer held (made_of held x).0 (made_of held x).1.0
+      at_item : (held : Option A) (x : A) → ⊤ → Apart FoundToDiffer held (emitted_of held x).0 (emitted_of held x).1.0
       at_item None x good = λ z after. absurd after
       at_item (Some y) x good = same_by_apart y x (h y x) refl
 

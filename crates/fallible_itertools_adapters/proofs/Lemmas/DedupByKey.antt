@@ -13,7 +13,7 @@ use Rattle.fallible_itertools_adapters.specs.DedupByKey.{dedup_by_key_contract, 
 use Rattle.fallible_itertools_adapters.specs.Laws.DedupByKey.{dedup_key_plan_buffers, held_one_of_keyed}
 use Rattle.fallible_itertools_adapters.specs.Plan.{plan_can}
 use Rattle.fallible_itertools_adapters.specs.Staged.{as_function}
-use Rattle.fallible_itertools_adapters.specs.Staging.{Made, MayMeet, stop_comes}
+use Rattle.fallible_itertools_adapters.specs.Staging.{Emitted, MayMeet, stop_comes}
 use Rattle.fallible_itertools_adapters.proofs.Lemmas.BeforeStop.{Apart, adjacent_items_apart, end_before_stop, hints_where_one_held, parted_by_failure}
 use Rattle.fallible_itertools_adapters.proofs.Lemmas.Plan.{plan_can_where_callable}
 use Rattle.fallible_itertools_adapters.proofs.Lemmas.Staged.{gives_plan}
@@ -65,8 +65,8 @@ module _ {A K E : Type 0} (eq : K → K → Bool) (h : A → Result K E) where
   IsKeyed None = ⊤
   IsKeyed (Some p) = h p.1 ≡ Ok p.0
 
-  abbrev ApartHere : Option (K × A) → Made A (Option E) E → Option (K × A) → Type 0
-  ApartHere held made k = Apart Differ (keyed_item held) made (keyed_item k)
+  abbrev ApartHere : Option (K × A) → Emitted A (Option E) E → Option (K × A) → Type 0
+  ApartHere held emitted k = Apart Differ (keyed_item held) emitted (keyed_item k)
 
   unless_same_key_apart : (p : K × A) (x : A) (k : K) (b : Bool) → eq p.0 k ≡ b → h p.1 ≡ Ok p.0 → h x ≡ Ok k → ApartHere (Some p) (unless_same_key eq p (k, x) b).0 (unless_same_key eq {E = E} p (k, x) b).1 × IsKeyed (unless_same_key eq {E = E} p (k, x) b).1
   unless_same_key_apart p x k true is keyed also = ((λ z after. after), keyed)
