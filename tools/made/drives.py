@@ -70,7 +70,7 @@ class Way:
                 self.add("its own `next`" if receiver == "self" else DRAWS[name], side or field, looped)
             elif name in STD and through:
                 self.add(STD[name], "")
-            elif receiver == "self" and name == "next_of_both":
+            elif receiver and name == "next_of_both":
                 # `next`, with a flag
                 self.add("its own `next`", "")
             elif receiver != "self" and name not in seen:
