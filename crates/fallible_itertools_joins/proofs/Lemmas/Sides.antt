@@ -15,9 +15,10 @@ use Rattle.std.specs.declared.ops.ControlFlow.TheVariants.{Continue, Break}
 use Rattle.fallible_iterator.specs.Cutting.Fuse.{fuse_parts}
 use Rattle.fallible_iterator.specs.Held.{held_count}
 use Rattle.fallible_iterator.specs.Hints.{fitting_sum}
-use Rattle.fallible_iterator.specs.Lists.{ActsWith, GivesForGood, Lists, result_answer}
+use Rattle.fallible_iterator.specs.Lists.{ActsWith, GivesForGood, Lists, ListsForGood, result_answer}
 use Rattle.fallible_iterator.specs.SoundHints.{AsSoundAsBoth}
 use Rattle.fallible_iterator.proofs.Lemmas.Cutting.Fuse.{lists_for_good_fused}
+use Rattle.fallible_iterator.proofs.Lemmas.Lists.ForGood.{lists_for_good_seen}
 use Rattle.fallible_iterator.proofs.Lemmas.Hints.Drawn.{if_some_at_least_of_smaller}
 use Rattle.fallible_iterator.proofs.Lemmas.Hints.Joining.{if_some_fitting_sum_at_least_both}
 use Rattle.fallible_iterator.specs.Fuse.{Fuse}
@@ -132,6 +133,11 @@ module _ {S U A B C E F V : Type 0} (steps : S → Answered A E → S → Type 0
 
   pub gives_for_good_sides : (p : SidesState steps others rule) (a : List (Result A E)) (b : List (Result B E)) → SideLists steps p.0 a → SideLists others p.1 b → Q p.2 → GivesForGood (SidesStep steps others rule) p (W a b)
   gives_for_good_sides p a b i k c = gives_for_good_where_each_answers_first (SidesStep steps others rule) ListTogether (λ s t r l d w. step_together_answers_first s t r l d w) (W a b) p (a, b, i, k, c, refl)
+
+-- what is made of two fused sides, of which nothing is drawn or held, lists so too
+module _ {X S U A B C E F V : Type 0} (left : Contract S A E) (right : Contract U B E) (rule : Rule A B C E F V) (Q : F → Type 0) (W : List (Result A E) → List (Result B E) → List (Result C E)) (by : ListsBy rule Q W) (lawful : IsLawfulRule rule) (parts : X → (Fuse S × Option A) × (Fuse U × Option B) × F) (c : X) {p : Fuse S} {q : Fuse U} {f : F} (s : S) (u : U) (a : List (Result A E)) (b : List (Result B E)) where
+  pub lists_for_good_sides : parts c ≡ ((p, None), (q, None), f) → fuse_parts p ≡ (s, false) → fuse_parts q ≡ (u, false) → Lists left.steps s a → Lists right.steps u b → Q f → ListsForGood (λ c r d. SidesStep (fused_steps left.steps) (fused_steps right.steps) rule (parts c) r (parts d)) c (W a b)
+  lists_for_good_sides begun fresh also i k holds = lists_for_good_seen parts (SidesStep (fused_steps left.steps) (fused_steps right.steps) rule) c begun refl (gives_for_good_sides (fused_steps left.steps) (fused_steps right.steps) rule Q W by lawful ((p, None), (q, None), f) a b (gives_for_good_of_fresh left p s a fresh i) (gives_for_good_of_fresh right q u b also k) holds)
 
 -- ---- hints
 
