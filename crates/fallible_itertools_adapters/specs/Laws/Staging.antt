@@ -1,7 +1,8 @@
 -- The contract of a stage is lawful where its source's is.
-use Rattle.std.specs.Prelude.{◌≡◌, ℕ, ◌+◌, ◌*◌, ◌≤◌, Option, Some, None, Ok, Err}
+use Rattle.std.specs.Prelude.{◌≡◌, ℕ, ◌+◌, ◌*◌, ◌≤◌, List, [], ◌∷◌, Option, Some, None, Ok, Err}
 use Rattle.std.specs.Iterator.{IsFinite, size}
-use Rattle.std.proofs.Common.{refl, ap, arith, inl, inr}
+use Rattle.std.specs.List.{FoldsTo}
+use Rattle.std.proofs.Common.{refl, sym, ap, arith, inl, inr}
 use Rattle.std.proofs.lemmas.Nat.{mul-le}
 use Rattle.fallible_iterator.specs.Traces.{Answered, item, failure}
 use Rattle.fallible_iterator.specs.Contract.{Contract, OnAnswer, KeptByDraw, KeptByDraws, Lawful}
@@ -149,3 +150,14 @@ module _ {S P X D B L E : Type 0} {m : Contract S X D} (l : Lawful m) (comes : L
     bounded = λ p. ((λ e. let k = (l.bounded p.0).0 e in (most * k.0 + held p.1.0 + due_total comes items_of p.1.1, (k.0, k.1, omega arith))), (λ h. (l.bounded p.0).1 ((h.1).0, (h.1).1)));
     traced = stage_traced comes meets m.steps l.traced;
   }
+
+-- ---- what holds in each state
+
+module _ {P A V : Type 0} {call : P → A → V → P → Type 0} {Q : A → Type 0} (T : P → Type 0) (keeps : (p : P) (a : A) (v : V) (q : P) → Q a → T p → call p a v q → T q) where
+  kept_by_calls : (made : List (A × V)) (p q : P) → FoldsTo (λ p c q. Q c.0 × call p c.0 c.1 q) p made q → T p → T q
+  kept_by_calls [] p q e t = rw (sym e) t
+  kept_by_calls (c ∷ made) p q w t = kept_by_calls made w.0 q w.2 (keeps p c.0 c.1 w.0 w.1.0 t w.1.1)
+
+  -- what each call keeps holds in each state that calls bring it to
+  pub kept_where_reached : {p q : P} → Reaches call Q p q → T p → T q
+  kept_where_reached {p = p} {q = q} r t = kept_by_calls r.made p q r.by t
