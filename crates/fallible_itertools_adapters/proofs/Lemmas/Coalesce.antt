@@ -19,36 +19,6 @@ use Rattle.fallible_itertools_adapters.proofs.Lemmas.Staged.{gives_plan}
 use Rattle.fallible_itertools_adapters.specs.declared.coalesce.Coalesce.{Coalesce}
 
 module _ {A E : Type 0} (h : A → A → OneOrBoth A E) where
-  -- ---- its equations
-
-  pub coalesced_of_none : coalesced h [] ≡ []
-  unfolding coalesced
-  coalesced_of_none = refl
-
-  pub coalesced_of_one : (y : A) → coalesced h (Ok y ∷ []) ≡ Ok y ∷ []
-  unfolding coalesced
-  coalesced_of_one y = refl
-
-  pub coalesced_of_merged : (y x z : A) (l : List (Result A E)) → h y x ≡ Ok (Ok z) → coalesced h (Ok y ∷ Ok x ∷ l) ≡ coalesced h (Ok z ∷ l)
-  unfolding coalesced
-  coalesced_of_merged y x z l is = rw is refl
-
-  pub coalesced_of_both : (y x a b : A) (l : List (Result A E)) → h y x ≡ Ok (Err (a, b)) → coalesced h (Ok y ∷ Ok x ∷ l) ≡ Ok a ∷ coalesced h (Ok b ∷ l)
-  unfolding coalesced
-  coalesced_of_both y x a b l is = rw is refl
-
-  pub coalesced_where_failed : (y x : A) (e : E) (l : List (Result A E)) → h y x ≡ Err e → coalesced h (Ok y ∷ Ok x ∷ l) ≡ Err e ∷ coalesced h l
-  unfolding coalesced
-  coalesced_where_failed y x e l is = rw is refl
-
-  pub coalesced_of_failure : (e : E) (l : List (Result A E)) → coalesced h (Err e ∷ l) ≡ Err e ∷ coalesced h l
-  unfolding coalesced
-  coalesced_of_failure e l = refl
-
-  pub coalesced_before_failure : (y : A) (e : E) (l : List (Result A E)) → coalesced h (Ok y ∷ Err e ∷ l) ≡ Ok y ∷ Err e ∷ coalesced h l
-  unfolding coalesced
-  coalesced_before_failure y e l = refl
-
   -- ---- what it lists
 
   abbrev on_both : A × A → OneOrBoth A E

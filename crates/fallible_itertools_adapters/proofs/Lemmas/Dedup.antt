@@ -16,32 +16,6 @@ use Rattle.fallible_itertools_adapters.proofs.Lemmas.Staged.{gives_plan}
 use Rattle.fallible_itertools_adapters.specs.declared.dedup.Dedup.{Dedup}
 
 module _ {A : Type 0} (E : Type 0) (eq : A → A → Bool) where
-  -- ---- its equations
-
-  pub deduped_of_none : deduped eq {E = E} [] ≡ []
-  unfolding deduped
-  deduped_of_none = refl
-
-  pub deduped_of_one : (y : A) → deduped eq {E = E} (Ok y ∷ []) ≡ Ok y ∷ []
-  unfolding deduped
-  deduped_of_one y = refl
-
-  pub deduped_of_equal : (y x : A) (l : List (Result A E)) → eq y x ≡ true → deduped eq (Ok y ∷ Ok x ∷ l) ≡ deduped eq (Ok y ∷ l)
-  unfolding deduped
-  deduped_of_equal y x l is = rw is refl
-
-  pub deduped_of_others : (y x : A) (l : List (Result A E)) → eq y x ≡ false → deduped eq (Ok y ∷ Ok x ∷ l) ≡ Ok y ∷ deduped eq (Ok x ∷ l)
-  unfolding deduped
-  deduped_of_others y x l is = rw is refl
-
-  pub deduped_of_failure : (e : E) (l : List (Result A E)) → deduped eq (Err e ∷ l) ≡ Err e ∷ deduped eq l
-  unfolding deduped
-  deduped_of_failure e l = refl
-
-  pub deduped_before_failure : (y : A) (e : E) (l : List (Result A E)) → deduped eq (Ok y ∷ Err e ∷ l) ≡ Ok y ∷ Err e ∷ deduped eq l
-  unfolding deduped
-  deduped_before_failure y e l = refl
-
   -- ---- what it lists
 
   pub deduped_in_parts : (a : List (Result A E)) (e : E) (b : List (Result A E)) → deduped eq (a ++ Err e ∷ b) ≡ deduped eq a ++ Err e ∷ deduped eq b

@@ -20,36 +20,6 @@ use Rattle.fallible_itertools_adapters.proofs.Lemmas.Staged.{gives_plan}
 use Rattle.fallible_itertools_adapters.specs.declared.dedup_by.DedupBy.{DedupBy}
 
 module _ {A E : Type 0} (h : A → A → Result Bool E) where
-  -- ---- its equations
-
-  pub deduped_by_of_none : deduped_by h [] ≡ []
-  unfolding deduped_by
-  deduped_by_of_none = refl
-
-  pub deduped_by_of_one : (y : A) → deduped_by h (Ok y ∷ []) ≡ Ok y ∷ []
-  unfolding deduped_by
-  deduped_by_of_one y = refl
-
-  pub deduped_by_of_same : (y x : A) (l : List (Result A E)) → h y x ≡ Ok true → deduped_by h (Ok y ∷ Ok x ∷ l) ≡ deduped_by h (Ok y ∷ l)
-  unfolding deduped_by
-  deduped_by_of_same y x l is = rw is refl
-
-  pub deduped_by_of_others : (y x : A) (l : List (Result A E)) → h y x ≡ Ok false → deduped_by h (Ok y ∷ Ok x ∷ l) ≡ Ok y ∷ deduped_by h (Ok x ∷ l)
-  unfolding deduped_by
-  deduped_by_of_others y x l is = rw is refl
-
-  pub deduped_by_where_failed : (y x : A) (e : E) (l : List (Result A E)) → h y x ≡ Err e → deduped_by h (Ok y ∷ Ok x ∷ l) ≡ Ok y ∷ Err e ∷ deduped_by h l
-  unfolding deduped_by
-  deduped_by_where_failed y x e l is = rw is refl
-
-  pub deduped_by_of_failure : (e : E) (l : List (Result A E)) → deduped_by h (Err e ∷ l) ≡ Err e ∷ deduped_by h l
-  unfolding deduped_by
-  deduped_by_of_failure e l = refl
-
-  pub deduped_by_before_failure : (y : A) (e : E) (l : List (Result A E)) → deduped_by h (Ok y ∷ Err e ∷ l) ≡ Ok y ∷ Err e ∷ deduped_by h l
-  unfolding deduped_by
-  deduped_by_before_failure y e l = refl
-
   -- ---- what it lists
 
   abbrev on_both : A × A → Result Bool E
