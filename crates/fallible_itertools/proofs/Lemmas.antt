@@ -56,7 +56,6 @@ pub use Rattle.fallible_itertools_adapters.proofs.Lemmas.InspectErr
 pub use Rattle.fallible_itertools_adapters.proofs.Lemmas.Intersperse
 pub use Rattle.fallible_itertools_adapters.proofs.Lemmas.Lengths
 pub use Rattle.fallible_itertools_adapters.proofs.Lemmas.LoopsMade
-pub use Rattle.fallible_itertools_adapters.proofs.Lemmas.MayCome
 pub use Rattle.fallible_itertools_adapters.proofs.Lemmas.OrElse
 pub use Rattle.fallible_itertools_adapters.proofs.Lemmas.PeekingTakeWhile
 pub use Rattle.fallible_itertools_adapters.proofs.Lemmas.Plan
