@@ -10,6 +10,8 @@ pub mod Places
 pub mod Report
 pub mod Spelled
 pub mod Spelling
+pub mod Taking
+pub mod Texts
 pub mod Tokens
 pub mod Trees
 pub mod Wanted

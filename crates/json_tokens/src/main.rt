@@ -5,6 +5,7 @@
 
 mod program;
 
+use fallible_json::Prints;
 use program::program;
 use program_io::arguments::{Given, input_of};
 use std::process::ExitCode;
@@ -32,6 +33,7 @@ fn main(rt: HostRuntime) -> ExitCode {
     match program(
         rt.alloc(),
         &rt.alloc(),
+        Prints::Texts,
         &mut input,
         &mut output,
         name.as_deref(),

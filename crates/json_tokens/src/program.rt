@@ -4,16 +4,17 @@ ghost use Rattle.fallible_json.specs.Report.{ComesTo};
 ghost use Rattle.program_io.specs.Endings.{EndsWith};
 ghost use Rattle.program_io.specs.Reading.{Fails};
 
-use fallible_json::{MakeJson, run};
+use fallible_json::{MakeTexts, Prints, run};
 use program_io::ending::ended;
 use program_io::reading::ReadBytes;
 use program_io::writing::WriteText;
 use std::alloc::Global;
 
 // Runs over `input`, and tells `errors` of a fault, with the name of the input where that has one. The status that the program ends with; an `Err` where there was a line to tell and it could not be written.
-pub(crate) fn program<M: MakeJson, R: ReadBytes, W: WriteText, E: WriteText>(
+pub(crate) fn program<M: MakeTexts, R: ReadBytes, W: WriteText, E: WriteText>(
     alloc: Global,
     maker: &M,
+    prints: Prints,
     input: &mut R,
     output: &mut W,
     name: Option<&str>,
@@ -24,5 +25,5 @@ pub(crate) fn program<M: MakeJson, R: ReadBytes, W: WriteText, E: WriteText>(
         (ComesTo R.left (Fails R.left R.fails) input.old input.new (M.refused maker.now) W.failed
         (W.written output.old) (W.written output.new) output.new) result }
 {
-    ended(run(alloc, maker, input, output), name, errors)
+    ended(run(alloc, maker, prints, input, output), name, errors)
 }
