@@ -11,8 +11,11 @@ mod ReadLemmas
 mod Reading
 mod RunLemmas
 mod SameTreeLemmas
+mod ShiftLemmas
 mod SpelledJsonLemmas
 mod SpelledLemmas
+mod TakingLemmas
+mod TextDrawsLemmas
 mod TextLemmas
 mod TextTokensLemmas
 mod TreeLemmas

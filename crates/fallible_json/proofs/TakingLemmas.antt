@@ -1,0 +1,1 @@
+-- What is taken of bytes, a token at a time.
