@@ -1,5 +1,6 @@
 mod BeginningLemmas
 mod FaultLemmas
+mod FrontLemmas
 mod JsonLemmas
 mod LexemeLemmas
 mod LexingLemmas

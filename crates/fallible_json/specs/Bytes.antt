@@ -49,7 +49,7 @@ abbrev pub LeavesAt : List ℕ → ℕ → Answered Lexeme (LexFault Infallible)
 LeavesAt text place (Ok (Some (first, last, token))) end = (place < end) × (end ≤ length text) × (last + 1 ≡ end)
 LeavesAt text place (Ok None) end = end ≡ place
 LeavesAt text place (Err (Unknown first)) end = (place < end) × (first < length text)
-LeavesAt text place (Err (Unfinished last wanted)) end = (place < end) × (last < length text)
+LeavesAt text place (Err (Unfinished last wanted)) end = (place < end) × (end ≤ length text) × (last + 1 ≡ end)
 LeavesAt text place (Err (Source never)) end = place < end
 
 -- the bytes from the place on, each after its place
