@@ -85,7 +85,8 @@ pub front_token : (bytes : List ℕ) (place first last end : ℕ) (token : Token
 front_token bytes place first last end token closed leaves takes =
     let same = leaves.2 in
     let short = leaves.1 in
-    (leaves.0, leaves.1, omega (arith, same, short), λ rest ending. (
+    let begins = leaves.3 in
+    (leaves.0, leaves.1, omega (arith, begins, short), omega (arith, same, short), λ rest ending. (
       joined_on bytes rest first last token closed,
       ap (tokens_by ending (bytes ++ rest)) (shown_first _ _ (Ok (first, last, token)) (takes rest)) ∙ kept_first ending (bytes ++ rest) (Ok (first, last, token)) (lexed (placed_from end (bytes ++ rest))) (open_on bytes rest (Ok (first, last, token)) closed),
     ))

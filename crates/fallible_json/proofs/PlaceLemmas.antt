@@ -33,10 +33,10 @@ place_after_append place [] back = refl
 place_after_append place (byte ∷ front) back = place_after_append (after_byte place byte) front back
 
 -- it grows by at most as many as there are bytes
-pub within_after_bytes : (place : ℕ × ℕ) (bytes : List ℕ) (n : ℕ) → (place.0 ≤ n + 1) × (place.1 ≤ n + 1) → ((place_after_bytes place bytes).0 ≤ n + length bytes + 1) × ((place_after_bytes place bytes).1 ≤ n + length bytes + 1)
+pub within_after_bytes : (place : ℕ × ℕ) (bytes : List ℕ) (n : ℕ) → place.0 ≤ n + 1 → place.1 ≤ n + 1 → ((place_after_bytes place bytes).0 ≤ n + length bytes + 1) × ((place_after_bytes place bytes).1 ≤ n + length bytes + 1)
 unfolding place_after_bytes
-within_after_bytes place [] n w = (omega (arith, w.0), omega (arith, w.1))
-within_after_bytes place (byte ∷ bytes) n w =
-    let one = within_after place byte (1, 1) n (omega (arith, w.0), omega (arith, w.1)) in
-    let k = within_after_bytes (after_byte place byte) bytes (n + 1) (omega (arith, one.0), omega (arith, one.1)) in
+within_after_bytes place [] n line column = (omega (arith, line), omega (arith, column))
+within_after_bytes place (byte ∷ bytes) n line column =
+    let one = within_after place byte (1, 1) n (omega (arith, line), omega (arith, column)) in
+    let k = within_after_bytes (after_byte place byte) bytes (n + 1) (omega (arith, one.0)) (omega (arith, one.1)) in
     (omega (arith, k.0), omega (arith, k.1))

@@ -1,7 +1,7 @@
 -- What is taken of bytes, a token at a time.
 use Rattle.std.specs.Prelude.{◌≡◌, ℕ, ◌+◌, ◌*◌, ◌<◌, ◌≤◌, ◌^◌, Bool, true, false, nat_le, nat_lt, Some, None, Ok, Err, Result, List, [], ◌∷◌, ◌++◌, length, map, take, drop, flat_map}
 use Rattle.std.specs.declared.convert.Infallible.{Infallible}
-use Rattle.std.proofs.Common.{arith, refl, sym, ap, subst, ◌∙◌, append-nil, append_assoc, length-append, length-take-le, take-append-drop, inl, inr}
+use Rattle.std.proofs.Common.{arith, refl, sym, ap, subst, subst₂, ◌∙◌, append-nil, append_assoc, length-append, length-take-le, take-append-drop, inl, inr}
 use Rattle.std.proofs.lemmas.List.{map-append, take-append-le}
 use Rattle.std.proofs.lemmas.Bool.Decides.{nat_tests}
 use Rattle.fallible_iterator.specs.Lists.{items, numbered}
@@ -58,7 +58,7 @@ takes_more {t} {u} {v} bytes at first last end token so_far stands taken = recor
   texts = so_far.texts ++ taken.texts;
   ended = end_more so_far.ended taken.ended;
   goes = λ rest ending.
-      let here = stands.3 rest ending in
+      let here = stands.4 rest ending in
       so_far.goes rest ending
       ∙ ap (λ l. so_far.texts before texts_from t.place (bytes ++ rest) ending (begun_of u) l) here.1
       ∙ ap (λ l. so_far.texts before l) (taken.goes t.place rest ending (tokens_from ending end (bytes ++ rest)) here.0)
@@ -115,3 +115,60 @@ finds_break {t} {u} bytes at fault so_far stands = record {
       ∙ ap (λ k. Err ((begun_of u).1, k) ∷ []) (fault_in_front t.place bytes rest (fault_place bytes (misplaced.Source fault)) wanted within)
       ∙ ap (λ p. Err ((begun_of u).1, fault_from p bytes (fault_place bytes (misplaced.Source fault)) wanted) ∷ []) (sym so_far.place));
 }
+
+pub finds_misplaced : {t u : Texts} (bytes : List ℕ) (at first last end : ℕ) (token : Token) → TakesUpTo t bytes at u → IsFront bytes at (front.Token first last token end) → after_token (begun_of u).0 token ≡ None → FindsFault t bytes (told_of u bytes (misplaced.Unexpected first)) u
+finds_misplaced {t} {u} bytes at first last end token so_far stands none = record {
+  texts = so_far.texts;
+  ended = so_far.ended;
+  fails = λ rest ending.
+      let here = stands.4 rest ending in
+      let wanted = wanted_of (begun_of u).0 in
+      so_far.goes rest ending
+      ∙ ap (λ l. so_far.texts before texts_from t.place (bytes ++ rest) ending (begun_of u) l) here.1
+      ∙ ap (λ l. so_far.texts before l) (
+      texts_misplaced t.place (bytes ++ rest) ending (begun_of u) (first, last, token) (tokens_from ending end (bytes ++ rest)) none
+      ∙ ap (λ k. Err ((begun_of u).1, k) ∷ []) (fault_in_front t.place bytes rest first wanted stands.2)
+      ∙ ap (λ p. Err ((begun_of u).1, fault_from p bytes first wanted) ∷ []) (sym so_far.place));
+}
+
+-- ---- what was taken
+
+-- the same of the bytes after those that were taken
+goes_on : (origin : ℕ × ℕ) (bytes rest : List ℕ) (taken : ℕ) (ending : Ending) (b : State × List ℕ) → taken ≤ length bytes → texts_from origin (bytes ++ rest) ending b (tokens_from ending taken (bytes ++ rest)) ≡ texts_after ending (place_after_bytes origin (take taken bytes)) b (drop taken bytes ++ rest)
+goes_on origin bytes rest taken ending b within =
+    let front : List ℕ = take taken bytes in
+    let back : List ℕ = drop taken bytes ++ rest in
+    let long : length front ≡ taken = length-take-le taken bytes within in
+    let whole : front ++ back ≡ bytes ++ rest = sym (append_assoc front (drop taken bytes) rest) ∙ ap (λ l. l ++ rest) (take-append-drop taken bytes) in
+    subst (λ l. texts_from origin l ending b (tokens_from ending taken l) ≡ texts_after ending (place_after_bytes origin front) b back) whole (subst (λ k. texts_from origin (front ++ back) ending b (tokens_from ending k (front ++ back)) ≡ texts_after ending (place_after_bytes origin front) b back) long (texts_on front back origin ending b))
+
+texts_none : (origin : ℕ × ℕ) (text : List ℕ) (b : State × List ℕ) (l : Tokens) → l ≡ [] → texts_from origin text cut b l ≡ Err (b.1, not_text_at (place_after_bytes origin text)) ∷ []
+unfolding texts_from
+texts_none origin text (state, json) l is = rw is refl
+
+-- the same texts, at another place
+abbrev at_place : Texts → ℕ × ℕ → Texts
+at_place t place = record t { place = place }
+
+pub takes_done : {t u : Texts} (bytes : List ℕ) (taken : ℕ) (place : ℕ × ℕ) → TakesUpTo t bytes taken u → tokens_from cut taken bytes ≡ [] → place ≡ place_after_bytes u.place (take taken bytes) → Takes t bytes taken (at_place u place)
+takes_done {t} {u} bytes taken place so_far none is = record {
+  texts = so_far.texts;
+  ended = record { lines = so_far.ended.lines; count = so_far.ended.count; whole = so_far.ended.whole };
+  within = so_far.within;
+  goes = λ rest ending. so_far.goes rest ending ∙ ap (λ l. so_far.texts before l) (goes_on t.place bytes rest taken ending (begun_of u) so_far.within ∙ ap (λ p. texts_after ending p (begun_of u) (drop taken bytes ++ rest)) here);
+  most =
+      let all : place_after_bytes t.place bytes ≡ place_after_bytes place (drop taken bytes) = ap (place_after_bytes t.place) (sym (take-append-drop taken bytes)) ∙ place_after_append t.place (take taken bytes) (drop taken bytes) ∙ ap (λ p. place_after_bytes p (drop taken bytes)) here in
+      let alone : texts_from t.place bytes cut (begun_of u) (tokens_from cut taken bytes) ≡ texts_after cut place (begun_of u) (drop taken bytes) =
+      subst₂ (λ l k. texts_from t.place l cut (begun_of u) (tokens_from cut taken l) ≡ texts_after cut place (begun_of u) k) (append-nil bytes) (append-nil (drop taken bytes)) (goes_on t.place bytes [] taken cut (begun_of u) so_far.within ∙ ap (λ p. texts_after cut p (begun_of u) (drop taken bytes ++ [])) here) in
+      sym alone ∙ texts_none t.place bytes (begun_of u) (tokens_from cut taken bytes) none ∙ ap (λ p. Err ((begun_of u).1, not_text_at p) ∷ []) all;
+  counts = λ n counts.
+      let few = so_far.few in
+      let more = so_far.ended.count in
+      let within = so_far.within in
+      let front = length-take-le taken bytes within in
+      let places = within_after_bytes t.place (take taken bytes) n counts.1 counts.2 in
+      (omega (arith, counts.0, few, more), subst (λ p. p.0 ≤ n + taken + 1) here (omega (arith, places.0, front)), subst (λ p. p.1 ≤ n + taken + 1) here (omega (arith, places.1, front)));
+}
+  where
+    here : place_after_bytes t.place (take taken bytes) ≡ place
+    here = ap (λ p. place_after_bytes p (take taken bytes)) (sym so_far.place) ∙ sym is

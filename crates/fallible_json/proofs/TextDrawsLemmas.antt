@@ -71,8 +71,8 @@ settled_stops text rest first at phase some ends settled = elim (leb_tells (leng
 ]
 
 -- or at the end of the text, where nothing comes after it
-pub leaves_closed : (text : List ℕ) (place first end : ℕ) (wanted : Option Token) (phase : Phase) → place < end → 0 < end → end ≤ length text → token_of phase ≡ wanted → LeavesAt text place (result_answer (lexeme_or first (end - 1) (wanted_in phase) wanted)) end
-leaves_closed text place first end (Some token) phase later some within is = (later, within, omega (arith, some))
+pub leaves_closed : (text : List ℕ) (place first end : ℕ) (wanted : Option Token) (phase : Phase) → place < end → first < end → end ≤ length text → token_of phase ≡ wanted → LeavesAt text place (result_answer (lexeme_or first (end - 1) (wanted_in phase) wanted)) end
+leaves_closed text place first end (Some token) phase later some within is = (later, within, omega (arith, some), some)
 leaves_closed text place first end None phase later some within is = (later, within, omega (arith, some))
 
 -- the run of a token ends where the text does

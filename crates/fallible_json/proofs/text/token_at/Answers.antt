@@ -26,7 +26,7 @@ returns-in-Some c =
     let within : first < length text = search rules in
     let takes : (rest : List ℕ) → TakesShown (lexed {E = Infallible} (placed_from c.args.place (text ++ rest))) (Ok (Some (first, first, c.in-Some.token))) (lexed (placed_from (first + 1) (text ++ rest))) = λ rest.
         takes_sign (text ++ rest) c.args.place first c.in-Some.token (c.blanks_end-first.ensures.tokens rest) (within_front text rest first within) (ap is_blank (byte_in_front text rest first within) ∙ c.blanks_end-first.ensures.ends within) (ap sign_of (byte_in_front text rest first within) ∙ search rules) in
-    record { draws = draws_alone text c.args.place (first + 1) _ takes; settled = λ rest settled. takes rest; leaves = (omega (arith, c.blanks_end-first.ensures.later), omega (arith, within), refl) }
+    record { draws = draws_alone text c.args.place (first + 1) _ takes; settled = λ rest settled. takes rest; leaves = (omega (arith, c.blanks_end-first.ensures.later), omega (arith, within), refl, omega arith) }
 
 pub returns-in_default-letter_begun : goal.returns-in_default-letter_begun
 returns-in_default-letter_begun c =
