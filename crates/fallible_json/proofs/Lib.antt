@@ -2,6 +2,7 @@ mod BeginningLemmas
 mod FaultLemmas
 mod FrontLemmas
 mod JsonLemmas
+mod LastLemmas
 mod LexemeLemmas
 mod LexingLemmas
 mod MinifyingLemmas
