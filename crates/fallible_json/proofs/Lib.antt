@@ -13,7 +13,9 @@ mod RunLemmas
 mod SameTreeLemmas
 mod SpelledJsonLemmas
 mod SpelledLemmas
+mod TakenLemmas
 mod TextLemmas
+mod TextRunLemmas
 mod TextTokensLemmas
 mod TreeLemmas
 mod WantedLemmas
