@@ -16,9 +16,11 @@ mod SameTreeLemmas
 mod ShiftLemmas
 mod SpelledJsonLemmas
 mod SpelledLemmas
+mod TakenLemmas
 mod TakingLemmas
 mod TextDrawsLemmas
 mod TextLemmas
+mod TextRunLemmas
 mod TextTokensLemmas
 mod TreeLemmas
 mod WantedLemmas
