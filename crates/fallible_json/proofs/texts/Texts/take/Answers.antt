@@ -14,8 +14,8 @@ returns-then-not-is_whole-clause-taken c =
     let whole = is_whole (begun_of c.add.new.self).0 in
     let joined = is_joined c.args.bytes.now (c.args.last, c.args.token) in
     token_goes_on c.args.self.now c.args.bytes.now (c.args.first, c.args.last, c.args.token) c.add.new.self c.in-Ok.ensures.added c.requires.within (elim c.then-not-is_whole.branch [
-      then-not-is_whole-via-then-not-is_whole w ↦ and_left whole (not joined) (sym c.is_whole.ensures ∙ w.if-not-is_whole.true)
-    | then-not-is_whole-via-else-not-is_whole+then-is_joined w ↦ and_right whole (not joined) (ap not (sym w.is_joined.ensures ∙ w.if-is_joined.true))
+      | then-not-is_whole-via-then-not-is_whole w ↦ and_left whole (not joined) (sym c.is_whole.ensures ∙ w.if-not-is_whole.true)
+      | then-not-is_whole-via-else-not-is_whole+then-is_joined w ↦ and_right whole (not joined) (ap not (sym w.is_joined.ensures ∙ w.if-is_joined.true))
     ])
 
 pub returns-in-Ok-end_text-clause-taken : goal.returns-in-Ok-end_text-clause-taken
