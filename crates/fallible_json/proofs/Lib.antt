@@ -1,5 +1,8 @@
 mod BeginningLemmas
+mod BufferLemmas
 mod FaultLemmas
+mod FewTextsLemmas
+mod FrontedLemmas
 mod JsonLemmas
 mod LexemeLemmas
 mod LexingLemmas
@@ -9,11 +12,14 @@ mod PlaceLemmas
 mod PrintedLemmas
 mod ReadLemmas
 mod Reading
+mod ReportLemmas
 mod RunLemmas
 mod SameTreeLemmas
+mod SoFarLemmas
 mod SpelledJsonLemmas
 mod SpelledLemmas
 mod TextLemmas
 mod TextTokensLemmas
 mod TreeLemmas
+mod Utf8Lemmas
 mod WantedLemmas

@@ -90,7 +90,7 @@ fn take_part<M: MakeTexts>(
     checked: usize,
 ) -> Result<(usize, usize), Fault<JsonFault>>
     requires within { checked ≤ length bytes.now }
-    requires fits { Fits texts.old (length bytes.now) }
+    requires fits { Fits texts.old (length bytes.now + 1) }
     ensures { TakesPart texts.old bytes.now checked (M.refused maker.now) texts.new result }
 {
     let (more, broken) = valid_len(&bytes[checked..]);
@@ -148,7 +148,7 @@ fn print_part<M: MakeTexts, W: WriteText>(
     writer: &mut W,
 ) -> Result<(usize, usize), RunFault<TextFault>>
     requires within { checked ≤ length bytes.now }
-    requires fits { Fits texts.old (length bytes.now) }
+    requires fits { Fits texts.old (length bytes.now + 1) }
     ensures { PrintsPart prints (W.written writer.old) (W.written writer.new) (W.failed writer.new)
         (M.refused maker.now) texts.old bytes.now checked texts.new result }
 {
