@@ -93,11 +93,11 @@ unfronted sent [] json json' f is same = absurd cc
 unfronted sent (Ok x ∷ l) json json' f is same = absurd cc
 unfronted sent (Err (x, g) ∷ l) json json' f is same =
     let p : (sent ++ x, g) ≡ (json, f) = cc in
-    let a = ap (λ (q : List ℕ × JsonFault). q.0) p in
-    let b = ap (λ (q : List ℕ × JsonFault). q.1) p in
+    let a : sent ++ x ≡ json = ap (λ (q : List ℕ × JsonFault). q.0) p in
+    let b : g ≡ f = ap (λ (q : List ℕ × JsonFault). q.1) p in
     let d : l ≡ [] = cc in
     let e : x ≡ json' = cancel sent x json' (a ∙ same) in
-    cc
+    λ i. Err (e i, b i) ∷ d i
 
 left_of_nil : (sent : List ℕ) (texts : List (List ℕ)) → sent ≡ [] → left_of sent texts ≡ []
 left_of_nil sent [] h = h
@@ -181,8 +181,8 @@ nothing_read prints unread written t begun none counts place whole =
 
 module _ {prints : Prints} {unread unread' written written' : Option (List ℕ)} {t : Texts} {front rest : List ℕ} (s : SoFar prints unread unread' written written' t front rest) where
   -- more bytes were read
-  pub so_far_read : (unread'' : Option (List ℕ)) (more : List ℕ) → Consumes unread' unread'' more → SoFar prints unread unread'' written written' t front (rest ++ more)
-  so_far_read unread'' more more_taken = record {
+  pub so_far_read : (unread'' : Option (List ℕ)) (more : List ℕ) → Consumes unread' unread'' more → (x : SoFar prints unread unread'' written written' t front (rest ++ more)) × (x.done ≡ s.done)
+  so_far_read unread'' more more_taken = (record {
     done = s.done;
     taken = subst (Consumes unread unread'') (append_assoc s.done (front ++ rest) more ∙ ap (λ l. s.done ++ l) (append_assoc front rest more)) (Consumes-trans unread unread' unread'' (s.done ++ (front ++ rest)) more s.taken more_taken);
     text = s.text;
@@ -197,7 +197,7 @@ module _ {prints : Prints} {unread unread' written written' : Option (List ℕ)}
     whole = s.whole;
     counts = s.counts;
     number = s.number;
-  }
+  }, refl)
 
   -- whatever texts the first bytes go on with
   goes_on : (v : List ℕ) (ending : Ending) (new : List (List ℕ)) (others : List Text) → texts_after ending t.place (begun_of t) (front ++ v) ≡ new before others → all_texts ending (s.done ++ (front ++ v)) ≡ (s.texts ++ fronted_texts s.sent new) before fronted (left_of s.sent new) others
@@ -233,7 +233,7 @@ module _ {prints : Prints} {unread unread' written written' : Option (List ℕ)}
     sent_within : (l : List ℕ) → (sends.sent ≡ []) ⊎ ((more : List ℕ) → texts_after complete v.place (begun_of v) (l ++ more) ≢ [])
     sent_within l = ⊎_elim (λ (none : sends.sent ≡ []). inl none) (λ (open' : 0 < length (begun_of u).0.0). inr (λ more. some_after v.place (l ++ more) (begun_of v).0 (begun_of v).1 (inl (subst (λ (b : State). 0 < length b.0) (sym sends.state) open')))) sends.within
 
-    pub so_far_taken : (n taken : ℕ) → n ≡ utf8_valid_len rest → Takes t (front ++ take n rest) taken u → SoFar prints unread unread' written written'' v (drop taken (front ++ take n rest)) (drop n rest)
+    pub so_far_taken : (n taken : ℕ) → n ≡ utf8_valid_len rest → Takes t (front ++ take n rest) taken u → (x : SoFar prints unread unread' written written'' v (drop taken (front ++ take n rest)) (drop n rest)) × (x.done ≡ s.done ++ take taken (front ++ take n rest))
     so_far_taken n taken is h =
         let part = take n rest in
         let v' = front ++ part in
@@ -249,7 +249,7 @@ module _ {prints : Prints} {unread unread' written written' : Option (List ℕ)}
         let b = counts.1 in
         let d = counts.2 in
         let number = number_with u h.texts h.ended in
-        record {
+        (record {
           done = s.done ++ take taken v';
           taken = subst (Consumes unread unread') (ap (λ l. s.done ++ (front ++ l)) (sym (take-append-drop n rest)) ∙ ap (λ l. s.done ++ l) (sym (append_assoc front part (drop n rest))) ∙ sym (joined s.done v' (drop n rest) taken)) s.taken;
           text = subst IsUtf8 (append_assoc s.done front part ∙ sym (joined_all s.done v' taken)) (IsUtf8-append (s.done ++ front) part s.text (subst (λ (k : ℕ). IsUtf8 (take k rest)) (sym is) (valid_front rest)));
@@ -267,7 +267,7 @@ module _ {prints : Prints} {unread unread' written written' : Option (List ℕ)}
           whole = sends.whole;
           counts = (omega (arith, a, count, long), omega (arith, b, line, long), omega (arith, d, column, long));
           number = count ∙ number;
-        }
+        }, refl)
 
   -- ---- how it ends
 
