@@ -1,5 +1,5 @@
 -- What a buffer holds of the bytes that were read, and what a run comes to.
-use Rattle.std.proofs.Common.{true, ◌≡◌, ◌⊎◌, inl, inr, ℕ, ◌+◌, ◌-◌, ◌<◌, ◌≤◌, ◌^◌, List, [], ◌∷◌, ◌++◌, length, take, drop, Option, Some, None, Result, Ok, Err, refl, sym, ap, subst, ◌∙◌, arith, append_assoc, append-nil, length-append, length-take, length-drop, take-add, take-append-drop}
+use Rattle.std.proofs.Common.{true, ◌≡◌, ◌⊎◌, inl, inr, ℕ, ◌+◌, ◌-◌, ◌*◌, ◌<◌, ◌≤◌, ◌^◌, List, [], ◌∷◌, ◌++◌, length, take, drop, Option, Some, None, Result, Ok, Err, refl, sym, ap, subst, ◌∙◌, arith, append_assoc, append-nil, length-append, length-take, length-drop, take-add, take-append-drop}
 use Rattle.std.specs.Prelude.{◌≢◌}
 use Rattle.std.proofs.KnownBytes.{Consumes-kept, Consumes-nil, Keeps-refl}
 use Rattle.std.proofs.Math.Seq.{take-append-add, drop-append-add, drop-append_seam, take-append_seam}
@@ -64,26 +64,18 @@ module _ {prints : Prints} {unread unread' written written' : Option (List ℕ)}
   held_within : length front + length rest + length s.so_far.done ≡ read
   held_within = let a = length-append s.so_far.done (front ++ rest) in let b = length-append front rest in let c = s.long in omega (arith, a, b, c)
 
-  pub fits_more : (n : ℕ) → read + n < 2 ^ 63 - 1 → Fits t (length front + length rest + n)
-  fits_more n few =
-      let a = held_within in
-      let b = s.so_far.counts.0 in
-      let c = s.so_far.counts.1 in
-      let d = s.so_far.counts.2 in
-      (s.so_far.whole, omega (arith, a, b, few), omega (arith, a, c, few), omega (arith, a, d, few))
-
 -- what a buffer holds has room in the numbers
-pub fits_held : {prints : Prints} {unread unread' written written' : Option (List ℕ)} {t : Texts} {buffer : List ℕ} {held checked read : ℕ} → Holds prints unread unread' written written' t buffer held checked read → (n k : ℕ) → read + n < 2 ^ 63 - 1 → k ≤ held + n → Fits t k
+pub fits_held : {prints : Prints} {unread unread' written written' : Option (List ℕ)} {t : Texts} {buffer : List ℕ} {held checked read : ℕ} → Holds prints unread unread' written written' t buffer held checked read → (n k : ℕ) → read + n ≤ 2 ^ 61 → k ≤ 2 * (held + n) + 1 → Fits t k
 fits_held {buffer = buffer} {held = held} h n k few within =
-    let fits = fits_more h.so_far n few in
     let long = length-take held buffer in
     let both = length-append h.front h.rest in
     let same : length (take held buffer) ≡ length (h.front ++ h.rest) = ap length h.are in
     let room = h.room in
-    let a = fits.1 in
-    let b = fits.2 in
-    let c = fits.3 in
-    (fits.0, omega (arith, long, both, same, room, a, within), omega (arith, long, both, same, room, b, within), omega (arith, long, both, same, room, c, within))
+    let all = held_within h.so_far in
+    let a = h.so_far.so_far.counts.0 in
+    let b = h.so_far.so_far.counts.1 in
+    let c = h.so_far.so_far.counts.2 in
+    (h.so_far.so_far.whole, omega (arith, long, both, same, room, all, few, within, a), omega (arith, long, both, same, room, all, few, within, b), omega (arith, long, both, same, room, all, few, within, c))
 
 pub held_read : {prints : Prints} {unread unread' written written' : Option (List ℕ)} {t : Texts} {buffer : List ℕ} {held checked read : ℕ} → Holds prints unread unread' written written' t buffer held checked read → (checked ≤ held) × (held ≤ read)
 held_read {buffer = buffer} {held = held} h =
@@ -190,8 +182,7 @@ module _ {R W : Type 0} (left : R → Option (List ℕ)) (fails : ErrorKind → 
           let g = held_within s in
           let m = length-append s.so_far.done (front ++ More) in
           let j = length-append front More in
-          let k = length-append rest new in
-          (
+          let k = length-append rest new in (
             drop taken part,
             drop n More,
             left_over,
@@ -227,7 +218,7 @@ module _ {R W : Type 0} (left : R → Option (List ℕ)) (fails : ErrorKind → 
     fault_comes fault told new most fills ends = comes_of_fault h.so_far fault told buffer new held most fills ends
 
     -- too many bytes were read
-    pub many_comes : (told : RunFault TextFault) → q ≡ p → 2 ^ 62 ≤ read → EndsFault prints written' written'' (failed w) t run.Read told → Comes (Err told)
+    pub many_comes : (told : RunFault TextFault) → q ≡ p → 2 ^ 61 ≤ read → EndsFault prints written' written'' (failed w) t run.Read told → Comes (Err told)
     many_comes told same many (inl ends) =
         let k = read_kept h.so_far (left q) (subst (λ x. Keeps (left p) (left x)) (sym same) (Keeps-refl (left p))) in
         let long = k.long in

@@ -42,8 +42,7 @@ few_lexed (Err e ∷ l) = let h = few_lexed l in let k = h.0 in (omega (arith, k
 few_lexed (Ok x ∷ l) =
     let h = few_lexed l in
     let tail = λ (b : Begun). lexed_after {E = Infallible} b l in
-    let here = few_from x.0 x.1 (length l) tail h.0 h.1 in
-    (
+    let here = few_from x.0 x.1 (length l) tail h.0 h.1 in (
       omega (arith, here),
       λ first last phase. few_goes (after phase x.1) (closed {E = Infallible} first last phase ∷ lexed_from x.0 x.1 tail) (λ next. tail (Some (first, x.0, next))) (suc (length l) + 1) (omega (arith, here)) (λ next. let k = h.1 first x.0 next in omega (arith, k)),
     )

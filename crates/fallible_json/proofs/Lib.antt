@@ -2,8 +2,10 @@ mod BeginningLemmas
 mod BufferLemmas
 mod FaultLemmas
 mod FewTextsLemmas
+mod FrontLemmas
 mod FrontedLemmas
 mod JsonLemmas
+mod LastLemmas
 mod LexemeLemmas
 mod LexingLemmas
 mod MinifyingLemmas
@@ -15,10 +17,15 @@ mod Reading
 mod ReportLemmas
 mod RunLemmas
 mod SameTreeLemmas
+mod ShiftLemmas
 mod SoFarLemmas
 mod SpelledJsonLemmas
 mod SpelledLemmas
+mod TakenLemmas
+mod TakingLemmas
+mod TextDrawsLemmas
 mod TextLemmas
+mod TextRunLemmas
 mod TextTokensLemmas
 mod TreeLemmas
 mod Utf8Lemmas

@@ -1,5 +1,5 @@
 -- What was read of texts, and what is written of them.
-use Rattle.std.proofs.Common.{Bool, true, false, ◌≡◌, ◌⊎◌, inl, inr, ⊎_elim, ℕ, ◌+◌, ◌-◌, ◌<◌, ◌≤◌, ◌^◌, List, [], ◌∷◌, ◌++◌, length, take, drop, Option, Result, Ok, Err, refl, sym, ap, subst, ◌∙◌, arith, append_assoc, append-nil, length-append, length-take, length-drop, reverse, take_all, take-append-drop, max}
+use Rattle.std.proofs.Common.{Bool, true, false, ◌≡◌, ◌⊎◌, inl, inr, ⊎_elim, ℕ, ◌+◌, ◌-◌, ◌*◌, ◌<◌, ◌≤◌, ◌^◌, List, [], ◌∷◌, ◌++◌, length, take, drop, Option, Result, Ok, Err, refl, sym, ap, subst, ◌∙◌, arith, append_assoc, append-nil, length-append, length-take, length-drop, reverse, take_all, take-append-drop, max}
 use Rattle.std.proofs.lemmas.List.{drop-drop, drop-take, length-reverse}
 use Rattle.std.specs.Io.KnownBytes.{Appends}
 use Rattle.std.specs.Prelude.{◌==◌, not}
@@ -20,25 +20,25 @@ use Rattle.fallible_json.specs.declared.texts.Texts.{Texts}
 
 -- ---- a fault can be told
 
-can_tell_ended : (t u : Texts) (texts : List (List ℕ)) (f : JsonFault) (n : ℕ) → EndTexts t texts u → length texts ≤ n + 1 → Fits t n → CanTell u (Source f)
-can_tell_ended t u texts f n ended few fits = let count = ended.count in let room = fits.1 in (ended.whole, omega (arith, count, few, room))
+can_tell_ended : (t u : Texts) (texts : List (List ℕ)) (f : JsonFault) (n : ℕ) → EndTexts t texts u → length texts ≤ n + 1 → t.count + n < 2 ^ 63 → CanTell u (Source f)
+can_tell_ended t u texts f n ended few room = let count = ended.count in (ended.whole, omega (arith, count, few, room))
 
-pub can_tell_part : (t : Texts) (bytes : List ℕ) (checked : ℕ) (refused : Type 0) (u : Texts) (fault : Fault JsonFault) → Fits t (length bytes + 1) → TakesPart t bytes checked refused u (Err fault) → CanTell u fault
+pub can_tell_part : (t : Texts) (bytes : List ℕ) (checked : ℕ) (refused : Type 0) (u : Texts) (fault : Fault JsonFault) → Fits t (2 * length bytes + 1) → TakesPart t bytes checked refused u (Err fault) → CanTell u fault
 can_tell_part t bytes checked refused u (Source f) fits (within, inl h) =
     let n = valid_of t bytes checked in
     let few = few_before _ _ _ _ h.texts _ (h.fails [] complete) in
-    can_tell_ended t u h.texts f (length bytes + 1) h.ended (omega (arith, few, length-append (take n bytes) [], length-take n bytes)) fits
+    can_tell_ended t u h.texts f (length bytes + 1) h.ended (omega (arith, few, length-append (take n bytes) [], length-take n bytes)) (let room = fits.1 in omega (arith, room))
 can_tell_part t bytes checked refused u (Source f) fits (within, inr h) =
     let n = valid_of t bytes checked in
     let few = few_before _ _ _ _ h.0.texts _ h.0.breaks in
-    can_tell_ended t u h.0.texts f (length bytes + 1) h.0.ended (omega (arith, few, length-take n bytes)) fits
+    can_tell_ended t u h.0.texts f (length bytes + 1) h.0.ended (omega (arith, few, length-take n bytes)) (let room = fits.1 in omega (arith, room))
 can_tell_part t bytes checked refused u (Memory e) fits h = tt
 
-pub can_tell_last : (t : Texts) (bytes : List ℕ) (checked : ℕ) (refused : Type 0) (u : Texts) (fault : Fault JsonFault) → Fits t (length bytes + 1) → TakesLast t bytes checked refused u (Err fault) → CanTell u fault
+pub can_tell_last : (t : Texts) (bytes : List ℕ) (checked : ℕ) (refused : Type 0) (u : Texts) (fault : Fault JsonFault) → Fits t (2 * length bytes + 1) → TakesLast t bytes checked refused u (Err fault) → CanTell u fault
 can_tell_last t bytes checked refused u (Source f) fits (inl h) =
     let few = few_before _ _ _ _ h.1.texts _ h.1.fails in
     let room = fits.1 in
-    can_tell_ended t u h.1.texts f (length bytes) h.1.ended few (fits.0, omega (arith, room), (let a = fits.2 in omega (arith, a)), (let a = fits.3 in omega (arith, a)))
+    can_tell_ended t u h.1.texts f (length bytes) h.1.ended few (omega (arith, room))
 can_tell_last t bytes checked refused u (Source f) fits (inr h) = let room = fits.1 in subst (λ (s : Texts). CanTell s (Source f)) (sym h.1) (fits.0, omega (arith, room))
 can_tell_last t bytes checked refused u (Memory e) fits h = tt
 
@@ -92,7 +92,7 @@ sends_ended prints written written' t u true count wrote whole long within f =
 
 -- ---- a byte that is no UTF-8
 
-pub fits_after : (t u : Texts) (bytes : List ℕ) (valid taken : ℕ) → Fits t (length bytes + 1) → Takes t (take valid bytes) taken u → Fits u (length (take (valid - taken) (drop taken bytes)))
+pub fits_after : (t u : Texts) (bytes : List ℕ) (valid taken : ℕ) → Fits t (2 * length bytes + 1) → Takes t (take valid bytes) taken u → Fits u (length (take (valid - taken) (drop taken bytes)))
 fits_after t u bytes valid taken fits h =
     let n = max t.count (max (t.place.0 - 1) (t.place.1 - 1)) in
     let counts : CountsUpTo t n = (omega arith, omega arith, omega arith) in
@@ -134,8 +134,7 @@ part_broken refused {t = t} {u = u} {taken = taken} bytes checked more f within 
     let e : taken + (checked + more - taken) ≡ checked + more = omega (arith, l, m) in
     let are : drop taken (take (checked + more) bytes) ≡ take (checked + more - taken) (drop taken bytes) = ap (λ (k : ℕ). drop taken (take k bytes)) (sym e) ∙ drop-take taken (checked + more - taken) bytes in
     let found = finds_broken h (take (checked + more - taken) (drop taken bytes)) are f told in
-    let room : n ≤ length bytes = omega (arith, same, few, long, within) in
-    (
+    let room : n ≤ length bytes = omega (arith, same, few, long, within) in (
       room,
       inr (
         subst (λ (k : ℕ). FindsBroken t (take k bytes) f u) same found,

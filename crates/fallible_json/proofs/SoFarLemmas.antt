@@ -182,22 +182,25 @@ nothing_read prints unread written t begun none counts place whole =
 module _ {prints : Prints} {unread unread' written written' : Option (List ℕ)} {t : Texts} {front rest : List ℕ} (s : SoFar prints unread unread' written written' t front rest) where
   -- more bytes were read
   pub so_far_read : (unread'' : Option (List ℕ)) (more : List ℕ) → Consumes unread' unread'' more → (x : SoFar prints unread unread'' written written' t front (rest ++ more)) × (x.done ≡ s.done)
-  so_far_read unread'' more more_taken = (record {
-    done = s.done;
-    taken = subst (Consumes unread unread'') (append_assoc s.done (front ++ rest) more ∙ ap (λ l. s.done ++ l) (append_assoc front rest more)) (Consumes-trans unread unread' unread'' (s.done ++ (front ++ rest)) more s.taken more_taken);
-    text = s.text;
-    texts = s.texts;
-    sent = s.sent;
-    goes = s.goes;
-    most = s.most;
-    ends = s.ends;
-    plain = s.plain;
-    wrote = s.wrote;
-    none = s.none;
-    whole = s.whole;
-    counts = s.counts;
-    number = s.number;
-  }, refl)
+  so_far_read unread'' more more_taken = (
+    record {
+      done = s.done;
+      taken = subst (Consumes unread unread'') (append_assoc s.done (front ++ rest) more ∙ ap (λ l. s.done ++ l) (append_assoc front rest more)) (Consumes-trans unread unread' unread'' (s.done ++ (front ++ rest)) more s.taken more_taken);
+      text = s.text;
+      texts = s.texts;
+      sent = s.sent;
+      goes = s.goes;
+      most = s.most;
+      ends = s.ends;
+      plain = s.plain;
+      wrote = s.wrote;
+      none = s.none;
+      whole = s.whole;
+      counts = s.counts;
+      number = s.number;
+    },
+    refl,
+  )
 
   -- whatever texts the first bytes go on with
   goes_on : (v : List ℕ) (ending : Ending) (new : List (List ℕ)) (others : List Text) → texts_after ending t.place (begun_of t) (front ++ v) ≡ new before others → all_texts ending (s.done ++ (front ++ v)) ≡ (s.texts ++ fronted_texts s.sent new) before fronted (left_of s.sent new) others
@@ -248,26 +251,28 @@ module _ {prints : Prints} {unread unread' written written' : Option (List ℕ)}
         let a = counts.0 in
         let b = counts.1 in
         let d = counts.2 in
-        let number = number_with u h.texts h.ended in
-        (record {
-          done = s.done ++ take taken v';
-          taken = subst (Consumes unread unread') (ap (λ l. s.done ++ (front ++ l)) (sym (take-append-drop n rest)) ∙ ap (λ l. s.done ++ l) (sym (append_assoc front part (drop n rest))) ∙ sym (joined s.done v' (drop n rest) taken)) s.taken;
-          text = subst IsUtf8 (append_assoc s.done front part ∙ sym (joined_all s.done v' taken)) (IsUtf8-append (s.done ++ front) part s.text (subst (λ (k : ℕ). IsUtf8 (take k rest)) (sym is) (valid_front rest)));
-          texts = s.texts ++ fronted_texts s.sent h.texts;
-          sent = left ++ sends.sent;
-          goes = λ more ending.
-              ap (λ l. all_texts ending l) (joined s.done v' more taken ∙ ap (λ l. s.done ++ l) (append_assoc front part more))
-              ∙ goes_on (part ++ more) ending h.texts _ (goes more ending)
-              ∙ ap (λ l. (s.texts ++ fronted_texts s.sent h.texts) before l) (fronted_twice left sends.sent (texts_after ending v.place (begun_of v) (drop taken v' ++ more)));
-          most = unfronted sends.sent (texts_after cut v.place (begun_of v) (drop taken v')) (begun_of u).1 (begun_of v).1 _ (sym (sent_on cut (drop taken v')) ∙ h.most ∙ ap (λ (p : ℕ × ℕ). Err ((begun_of u).1, not_text_at (place_after_bytes p (drop taken v'))) ∷ []) (sym sends.place)) sends.json;
-          ends = ends_taken h.texts s.sent sends.sent (λ more. texts_after complete t.place (begun_of t) (front ++ (part ++ more))) (λ more. texts_after complete v.place (begun_of v) (drop taken v' ++ more)) (λ more. goes more complete) (⊎_elim (λ (none : s.sent ≡ []). inl none) (λ (some : (more : List ℕ) → texts_after complete t.place (begun_of t) (front ++ more) ≢ []). inr (λ more. some (part ++ more))) s.ends) (sent_within (drop taken v'));
-          plain = λ texts. ap (λ l. l ++ sends.sent) (left_of_nil s.sent h.texts (s.plain texts)) ∙ sends.plain texts;
-          wrote = subst (Appends written written'') (ap (λ l. (lines_of s.texts ++ s.sent) ++ (l ++ sends.sent)) (ended_with u h.texts h.ended) ∙ lines_with h.texts sends.sent) (Appends-trans written written' written'' (lines_of s.texts ++ s.sent) (ended_of u ++ sends.sent) s.wrote sends.wrote);
-          none = sends.none;
-          whole = sends.whole;
-          counts = (omega (arith, a, count, long), omega (arith, b, line, long), omega (arith, d, column, long));
-          number = count ∙ number;
-        }, refl)
+        let number = number_with u h.texts h.ended in (
+          record {
+            done = s.done ++ take taken v';
+            taken = subst (Consumes unread unread') (ap (λ l. s.done ++ (front ++ l)) (sym (take-append-drop n rest)) ∙ ap (λ l. s.done ++ l) (sym (append_assoc front part (drop n rest))) ∙ sym (joined s.done v' (drop n rest) taken)) s.taken;
+            text = subst IsUtf8 (append_assoc s.done front part ∙ sym (joined_all s.done v' taken)) (IsUtf8-append (s.done ++ front) part s.text (subst (λ (k : ℕ). IsUtf8 (take k rest)) (sym is) (valid_front rest)));
+            texts = s.texts ++ fronted_texts s.sent h.texts;
+            sent = left ++ sends.sent;
+            goes = λ more ending.
+                ap (λ l. all_texts ending l) (joined s.done v' more taken ∙ ap (λ l. s.done ++ l) (append_assoc front part more))
+                ∙ goes_on (part ++ more) ending h.texts _ (goes more ending)
+                ∙ ap (λ l. (s.texts ++ fronted_texts s.sent h.texts) before l) (fronted_twice left sends.sent (texts_after ending v.place (begun_of v) (drop taken v' ++ more)));
+            most = unfronted sends.sent (texts_after cut v.place (begun_of v) (drop taken v')) (begun_of u).1 (begun_of v).1 _ (sym (sent_on cut (drop taken v')) ∙ h.most ∙ ap (λ (p : ℕ × ℕ). Err ((begun_of u).1, not_text_at (place_after_bytes p (drop taken v'))) ∷ []) (sym sends.place)) sends.json;
+            ends = ends_taken h.texts s.sent sends.sent (λ more. texts_after complete t.place (begun_of t) (front ++ (part ++ more))) (λ more. texts_after complete v.place (begun_of v) (drop taken v' ++ more)) (λ more. goes more complete) (⊎_elim (λ (none : s.sent ≡ []). inl none) (λ (some : (more : List ℕ) → texts_after complete t.place (begun_of t) (front ++ more) ≢ []). inr (λ more. some (part ++ more))) s.ends) (sent_within (drop taken v'));
+            plain = λ texts. ap (λ l. l ++ sends.sent) (left_of_nil s.sent h.texts (s.plain texts)) ∙ sends.plain texts;
+            wrote = subst (Appends written written'') (ap (λ l. (lines_of s.texts ++ s.sent) ++ (l ++ sends.sent)) (ended_with u h.texts h.ended) ∙ lines_with h.texts sends.sent) (Appends-trans written written' written'' (lines_of s.texts ++ s.sent) (ended_of u ++ sends.sent) s.wrote sends.wrote);
+            none = sends.none;
+            whole = sends.whole;
+            counts = (omega (arith, a, count, long), omega (arith, b, line, long), omega (arith, d, column, long));
+            number = count ∙ number;
+          },
+          refl,
+        )
 
   -- ---- how it ends
 
@@ -279,8 +284,7 @@ module _ {prints : Prints} {unread unread' written written' : Option (List ℕ)}
   told_as u new f written'' h has wrote =
       let left = left_of s.sent new in
       let number = number_with u new h in
-      let lines = last_printed prints u (lines_of s.texts ++ s.sent) (s.texts ++ fronted_texts s.sent new) left (λ json. ap (λ l. (lines_of s.texts ++ s.sent) ++ (l ++ json)) (ended_with u new h) ∙ lines_with new json) (λ texts. left_of_nil s.sent new (s.plain texts)) in
-      (
+      let lines = last_printed prints u (lines_of s.texts ++ s.sent) (s.texts ++ fronted_texts s.sent new) left (λ json. ap (λ l. (lines_of s.texts ++ s.sent) ++ (l ++ json)) (ended_with u new h) ∙ lines_with new json) (λ texts. left_of_nil s.sent new (s.plain texts)) in (
         s.texts ++ fronted_texts s.sent new,
         left ++ (begun_of u).1,
         has,
@@ -361,10 +365,10 @@ module _ {prints : Prints} {unread unread' written written' : Option (List ℕ)}
       are = inr (
         end,
         ap texts_of (sym (append_assoc s.done front rest))
-        ∙ texts_of_front (s.done ++ front) rest cut_front (let c = length-append front rest in omega (arith, c, some))
-        ∙ all_cut
-        ∙ ap (λ l. l before Err (s.sent ++ (begun_of t).1, not_text_at (place_after_bytes t.place front)) ∷ []) (sym (append-nil s.texts))
-        ∙ ap (λ x. (s.texts ++ []) before Err (s.sent ++ (begun_of t).1, x) ∷ []) (sym is),
+            ∙ texts_of_front (s.done ++ front) rest cut_front (let c = length-append front rest in omega (arith, c, some))
+            ∙ all_cut
+            ∙ ap (λ l. l before Err (s.sent ++ (begun_of t).1, not_text_at (place_after_bytes t.place front)) ∷ []) (sym (append-nil s.texts))
+            ∙ ap (λ x. (s.texts ++ []) before Err (s.sent ++ (begun_of t).1, x) ∷ []) (sym is),
       );
     }) wrote
 

@@ -21,7 +21,7 @@ pub record HasTexts (unread unread' : Option (List ℕ)) (texts : List Text) : T
 
 -- A reader yielded so many bytes that it is read no further.
 abbrev pub YieldsMany : Option (List ℕ) → Option (List ℕ) → Type 0
-YieldsMany unread unread' = (bytes : List ℕ) × Consumes unread unread' bytes × (2 ^ 62 ≤ length bytes)
+YieldsMany unread unread' = (bytes : List ℕ) × Consumes unread unread' bytes × (2 ^ 61 ≤ length bytes)
 
 module _ (prints : Prints) (unread unread' written written' : Option (List ℕ)) where
   -- Bytes were read, which have no fault so far, and what is printed of their texts was written.

@@ -1,5 +1,5 @@
 //! The JSON texts that a reader yields, without blanks, each on a line.
-ghost use Rattle.std.specs.Prelude.{◌≡◌, ◌+◌, ◌-◌, ◌<◌, ◌≤◌, ◌^◌, OnErr, OnOk, length, take, drop};
+ghost use Rattle.std.specs.Prelude.{◌≡◌, ◌+◌, ◌-◌, ◌*◌, ◌<◌, ◌≤◌, ◌^◌, OnErr, OnOk, length, take, drop};
 ghost use Rattle.std.specs.Io.KnownBytes.{Appends};
 ghost use Rattle.fallible_json.specs.Report.{ComesTo};
 ghost use Rattle.fallible_json.specs.Taking.{Fits};
@@ -26,7 +26,7 @@ pub enum Prints {
 }
 
 // How many bytes are read at most, so that the numbers of lines fit a `usize`.
-const MOST: usize = 1 << 62;
+const MOST: usize = 1 << 61;
 
 // Writes the first bytes of the lines.
 fn write_first<W: WriteText>(texts: &Texts, count: usize, writer: &mut W) -> io::Result<()>
@@ -52,11 +52,7 @@ fn write_ended<W: WriteText>(texts: &mut Texts, prints: Prints, writer: &mut W) 
         Prints::Texts => false,
         Prints::Tokens => !texts.nesting.containers.is_empty(),
     };
-    let count = if all {
-        texts.lines.len()
-    } else {
-        texts.whole
-    };
+    let count = if all { texts.lines.len() } else { texts.whole };
     write_first(texts, count, writer)?;
     texts.forget(all);
     Ok(())
@@ -90,7 +86,7 @@ fn take_part<M: MakeTexts>(
     checked: usize,
 ) -> Result<(usize, usize), Fault<JsonFault>>
     requires within { checked ≤ length bytes.now }
-    requires fits { Fits texts.old (length bytes.now + 1) }
+    requires fits { Fits texts.old (2 * length bytes.now + 1) }
     ensures { TakesPart texts.old bytes.now checked (M.refused maker.now) texts.new result }
 {
     let (more, broken) = valid_len(&bytes[checked..]);
@@ -109,7 +105,7 @@ fn take_last<M: MakeTexts>(
     bytes: &[u8],
     checked: usize,
 ) -> Result<(), Fault<JsonFault>>
-    requires fits { Fits texts.old (length bytes.now + 1) }
+    requires fits { Fits texts.old (2 * length bytes.now + 1) }
     ensures { TakesLast texts.old bytes.now checked (M.refused maker.now) texts.new result }
 {
     if checked < bytes.len() {
@@ -132,8 +128,14 @@ fn tell<W: WriteText>(
     match fault {
         Fault::Source(fault) => {
             let text = texts.count + 1;
-            end_with(RunFault::Input(TextFault { text, fault }), texts, prints, writer)
+            end_with(
+                RunFault::Input(TextFault { text, fault }),
+                texts,
+                prints,
+                writer,
+            )
         }
+        // No memory: the fault has the error of an allocation, and that of a run doesn't keep it.
         Fault::Memory(_) => RunFault::Memory,
     }
 }
@@ -148,7 +150,7 @@ fn print_part<M: MakeTexts, W: WriteText>(
     writer: &mut W,
 ) -> Result<(usize, usize), RunFault<TextFault>>
     requires within { checked ≤ length bytes.now }
-    requires fits { Fits texts.old (length bytes.now + 1) }
+    requires fits { Fits texts.old (2 * length bytes.now + 1) }
     ensures { PrintsPart prints (W.written writer.old) (W.written writer.new) (W.failed writer.new)
         (M.refused maker.now) texts.old bytes.now checked texts.new result }
 {
@@ -170,7 +172,7 @@ fn print_last<M: MakeTexts, W: WriteText>(
     prints: Prints,
     writer: &mut W,
 ) -> Result<(), RunFault<TextFault>>
-    requires fits { Fits texts.old (length bytes.now + 1) }
+    requires fits { Fits texts.old (2 * length bytes.now + 1) }
     ensures { PrintsLast prints (W.written writer.old) (W.written writer.new) (W.failed writer.new)
         (M.refused maker.now) texts.old bytes.now checked result }
 {
@@ -199,6 +201,7 @@ fn fill<M: MakeTexts, R: ReadBytes>(
 {
     match maker.widen(buffer, held) {
         Ok(()) => {}
+        // No memory: `widen` fails only if an allocation does, and its fault doesn't keep the error.
         Err(_) => return Err(RunFault::Memory),
     }
     let end = buffer.len().min(held + most);
@@ -219,7 +222,7 @@ fn keep_rest(buffer: &mut Vec<u8>, taken: usize, filled: usize)
     buffer.copy_within(taken..filled, 0);
 }
 
-/// Reads JSON texts up to the end of `reader`, which may be any reader of std, and writes each to `writer` without the blanks between its tokens, and a newline, as soon as it ends. It fails with `Input` at the first fault of a text, with `Read` where a read fails, or after 2 ^ 62 bytes, with `Memory` if that is for want of memory or `maker` has none, and with `Write` where the writer fails. An interrupted read is tried again.
+/// Reads JSON texts up to the end of `reader`, which may be any reader of std, and writes each to `writer` without the blanks between its tokens, and a newline, as soon as it ends. It fails with `Input` at the first fault of a text, with `Read` where a read fails, or after 2 ^ 61 bytes, with `Memory` if that is for want of memory or `maker` has none, and with `Write` where the writer fails. An interrupted read is tried again.
 pub fn run<M: MakeTexts, R: ReadBytes, W: WriteText>(
     alloc: Global,
     maker: &M,

@@ -29,10 +29,10 @@ pub fill-requires-clause-fits : goal.fill-requires-clause-fits
 fill-requires-clause-fits g c = let k = (held_read c.loop-read.invariant.holds).1 in omega (arith, k, c.loop-read-test.true)
 
 pub returns-in-Err : goal.returns-in-Err
-returns-in-Err g c = fault_comes g.R.ReadBytes.left g.R.ReadBytes.fails c.args.reader.now c.loop-read.reader c.fill.new.reader (g.M.MakeTexts.refused c.args.maker.now) c.args.prints g.W.WriteText.failed (g.W.WriteText.written c.args.writer.now) (g.W.WriteText.written c.loop-read.writer) (g.W.WriteText.written c.end_with.new.writer) c.end_with.new.writer c.loop-read.invariant.holds c.in-Err.fault c.end_with.result c.fill.new.buffer.items (2 ^ 62 - c.loop-read.read) c.in-Err.ensures c.end_with.ensures
+returns-in-Err g c = fault_comes g.R.ReadBytes.left g.R.ReadBytes.fails c.args.reader.now c.loop-read.reader c.fill.new.reader (g.M.MakeTexts.refused c.args.maker.now) c.args.prints g.W.WriteText.failed (g.W.WriteText.written c.args.writer.now) (g.W.WriteText.written c.loop-read.writer) (g.W.WriteText.written c.end_with.new.writer) c.end_with.new.writer c.loop-read.invariant.holds c.in-Err.fault c.end_with.result c.fill.new.buffer.items (2 ^ 61 - c.loop-read.read) c.in-Err.ensures c.end_with.ensures
 
 pub returns-then-count-eq0 : goal.returns-then-count-eq0
-returns-then-count-eq0 g c = last_comes g.R.ReadBytes.left g.R.ReadBytes.fails c.args.reader.now c.loop-read.reader c.fill.new.reader (g.M.MakeTexts.refused c.args.maker.now) c.args.prints g.W.WriteText.failed (g.W.WriteText.written c.args.writer.now) (g.W.WriteText.written c.loop-read.writer) (g.W.WriteText.written c.print_last.new.writer) c.print_last.new.writer c.loop-read.invariant.holds c.fill.new.buffer.items c.deref.result.now c.in-Ok.count (2 ^ 62 - c.loop-read.read) c.in-Ok.ensures c.deref.ensures.value c.print_last.result c.if-count-eq0.true c.print_last.ensures
+returns-then-count-eq0 g c = last_comes g.R.ReadBytes.left g.R.ReadBytes.fails c.args.reader.now c.loop-read.reader c.fill.new.reader (g.M.MakeTexts.refused c.args.maker.now) c.args.prints g.W.WriteText.failed (g.W.WriteText.written c.args.writer.now) (g.W.WriteText.written c.loop-read.writer) (g.W.WriteText.written c.print_last.new.writer) c.print_last.new.writer c.loop-read.invariant.holds c.fill.new.buffer.items c.deref.result.now c.in-Ok.count (2 ^ 61 - c.loop-read.read) c.in-Ok.ensures c.deref.ensures.value c.print_last.result c.if-count-eq0.true c.print_last.ensures
 
 pub print_last-requires : goal.print_last-requires
 print_last-requires g c =
@@ -53,17 +53,17 @@ print_part-requires-clause-fits g c =
     let few = c.loop-read.invariant.few in
     let most = c.in-Ok.ensures.2 in
     let long = length-take (c.loop-read.held + c.in-Ok.count) c.deref-in-loop-read.result.now in
-    fits_held c.loop-read.invariant.holds (c.in-Ok.count + 1) _ (omega (arith, few, most)) (omega (arith, long))
+    fits_held c.loop-read.invariant.holds c.in-Ok.count _ (omega (arith, few, most)) (omega (arith, long))
 
 pub returns-in-Err-print_part : goal.returns-in-Err-print_part
-returns-in-Err-print_part g c = part_comes g.R.ReadBytes.left g.R.ReadBytes.fails c.args.reader.now c.loop-read.reader c.fill.new.reader (g.M.MakeTexts.refused c.args.maker.now) c.args.prints g.W.WriteText.failed (g.W.WriteText.written c.args.writer.now) (g.W.WriteText.written c.loop-read.writer) (g.W.WriteText.written c.print_part.new.writer) c.print_part.new.writer c.loop-read.invariant.holds c.fill.new.buffer.items c.deref-in-loop-read.result.now c.in-Ok.count (2 ^ 62 - c.loop-read.read) c.in-Ok.ensures c.deref-in-loop-read.ensures.value c.print_part.new.texts c.in-Err-print_part.fault c.in-Err-print_part.ensures
+returns-in-Err-print_part g c = part_comes g.R.ReadBytes.left g.R.ReadBytes.fails c.args.reader.now c.loop-read.reader c.fill.new.reader (g.M.MakeTexts.refused c.args.maker.now) c.args.prints g.W.WriteText.failed (g.W.WriteText.written c.args.writer.now) (g.W.WriteText.written c.loop-read.writer) (g.W.WriteText.written c.print_part.new.writer) c.print_part.new.writer c.loop-read.invariant.holds c.fill.new.buffer.items c.deref-in-loop-read.result.now c.in-Ok.count (2 ^ 61 - c.loop-read.read) c.in-Ok.ensures c.deref-in-loop-read.ensures.value c.print_part.new.texts c.in-Err-print_part.fault c.in-Err-print_part.ensures
 
 pub loop-read-preserved : goal.loop-read-preserved
 loop-read-preserved g c =
     let few = c.loop-read.invariant.few in
     let most = c.in-Ok.ensures.2 in
     record {
-      holds = turn g.R.ReadBytes.left g.R.ReadBytes.fails c.args.reader.now c.loop-read.reader c.fill.new.reader (g.M.MakeTexts.refused c.args.maker.now) c.args.prints g.W.WriteText.failed (g.W.WriteText.written c.args.writer.now) (g.W.WriteText.written c.loop-read.writer) (g.W.WriteText.written c.print_part.new.writer) c.print_part.new.writer c.loop-read.invariant.holds c.fill.new.buffer.items c.deref-in-loop-read.result.now c.in-Ok.count (2 ^ 62 - c.loop-read.read) c.in-Ok.ensures c.deref-in-loop-read.ensures.value c.print_part.new.texts c.in-Ok-print_part.part.0 c.in-Ok-print_part.part.1 c.keep_rest.new.buffer.items c.in-Ok-print_part.ensures c.keep_rest.ensures.room c.keep_rest.ensures.rest;
+      holds = turn g.R.ReadBytes.left g.R.ReadBytes.fails c.args.reader.now c.loop-read.reader c.fill.new.reader (g.M.MakeTexts.refused c.args.maker.now) c.args.prints g.W.WriteText.failed (g.W.WriteText.written c.args.writer.now) (g.W.WriteText.written c.loop-read.writer) (g.W.WriteText.written c.print_part.new.writer) c.print_part.new.writer c.loop-read.invariant.holds c.fill.new.buffer.items c.deref-in-loop-read.result.now c.in-Ok.count (2 ^ 61 - c.loop-read.read) c.in-Ok.ensures c.deref-in-loop-read.ensures.value c.print_part.new.texts c.in-Ok-print_part.part.0 c.in-Ok-print_part.part.1 c.keep_rest.new.buffer.items c.in-Ok-print_part.ensures c.keep_rest.ensures.room c.keep_rest.ensures.rest;
       few = omega (arith, few, most);
     }
 
