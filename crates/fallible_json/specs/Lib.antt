@@ -15,4 +15,5 @@ pub mod Texts
 pub mod Tokens
 pub mod Trees
 pub mod Wanted
+pub mod Writing
 pub mod WrittenTexts
