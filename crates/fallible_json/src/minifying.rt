@@ -22,6 +22,7 @@ pub enum Misplaced<E> {
 }
 
 // Adds a byte.
+#[inline(always)]
 pub(crate) fn add_byte(json: &mut Vec<u8>, byte: u8) -> Result<(), AllocError>
     ensures { OnOk result (json.new.items ≡ json.old.items ++ byte ∷ []) }
 {
@@ -33,6 +34,7 @@ pub(crate) fn add_byte(json: &mut Vec<u8>, byte: u8) -> Result<(), AllocError>
 }
 
 // Adds the bytes of a text from the first to the last; none, where it has no such bytes.
+#[inline(always)]
 pub(crate) fn add_bytes(
     json: &mut Vec<u8>,
     text: &[u8],

@@ -26,6 +26,7 @@ use std::convert::Infallible;
 use std::str::from_utf8;
 
 // Whether a token is a number or a literal.
+#[inline(always)]
 fn is_word(token: Token) -> bool
     ensures { result ≡ is_word token }
 {
@@ -43,6 +44,7 @@ fn ends_word(byte: u8) -> bool
 }
 
 // Whether the byte after a token is one that may not stand right after it.
+#[inline(always)]
 fn is_joined(bytes: &[u8], last: usize, token: Token) -> bool
     requires { last < length bytes.now }
     ensures { result ≡ is_joined bytes.now (last, token) }
@@ -73,6 +75,7 @@ enum Front {
 }
 
 // What stands at a place.
+#[inline(always)]
 fn front_at(bytes: &[u8], place: usize) -> Front
     ensures { IsFront bytes.now place result }
 {
@@ -158,6 +161,7 @@ impl Texts {
     }
 
     // Adds a token of bytes to what is begun.
+    #[inline(always)]
     fn add(&mut self, bytes: &[u8], first: usize, last: usize, token: Token) -> Result<(), Stop>
         requires fits { Fits self.old 0 }
         ensures added { OnOk result (AddsToken self.old bytes.now (first, last, token) self.new) }
@@ -176,6 +180,7 @@ impl Texts {
     }
 
     // Takes a token of bytes; or the fault where it may not stand.
+    #[inline(always)]
     fn take(
         &mut self,
         bytes: &[u8],
