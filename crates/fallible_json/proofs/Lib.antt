@@ -1,5 +1,6 @@
 mod BeginningLemmas
 mod FaultLemmas
+mod FrontLemmas
 mod JsonLemmas
 mod LexemeLemmas
 mod LexingLemmas
@@ -11,8 +12,11 @@ mod ReadLemmas
 mod Reading
 mod RunLemmas
 mod SameTreeLemmas
+mod ShiftLemmas
 mod SpelledJsonLemmas
 mod SpelledLemmas
+mod TakingLemmas
+mod TextDrawsLemmas
 mod TextLemmas
 mod TextTokensLemmas
 mod TreeLemmas

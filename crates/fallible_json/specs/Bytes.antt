@@ -46,10 +46,10 @@ IsSettled text (Err fault) = is_open text (Err fault) ≡ false
 
 -- where a draw at a place of a text leaves the next: right after the token, and further on after a fault
 abbrev pub LeavesAt : List ℕ → ℕ → Answered Lexeme (LexFault Infallible) → ℕ → Type 0
-LeavesAt text place (Ok (Some (first, last, token))) end = (place < end) × (end ≤ length text) × (last + 1 ≡ end)
+LeavesAt text place (Ok (Some (first, last, token))) end = (place < end) × (end ≤ length text) × (last + 1 ≡ end) × (first < end)
 LeavesAt text place (Ok None) end = end ≡ place
 LeavesAt text place (Err (Unknown first)) end = (place < end) × (first < length text)
-LeavesAt text place (Err (Unfinished last wanted)) end = (place < end) × (last < length text)
+LeavesAt text place (Err (Unfinished last wanted)) end = (place < end) × (end ≤ length text) × (last + 1 ≡ end)
 LeavesAt text place (Err (Source never)) end = place < end
 
 -- the bytes from the place on, each after its place

@@ -107,7 +107,7 @@ tokens_from ending place text = tokens_by ending text (lexed (placed_from place 
 
 -- A token comes first, whatever comes after the bytes; or a fault; or nothing comes that no further byte could change.
 abbrev pub IsFront : List ℕ → ℕ → Front → Type 0
-IsFront bytes place (Token first last token end) = (place < end) × (end ≤ length bytes) × (last < length bytes) × ((rest : List ℕ) (ending : Ending) → (is_joined (bytes ++ rest) (last, token) ≡ is_joined bytes (last, token)) × (tokens_from ending place (bytes ++ rest) ≡ Ok (first, last, token) ∷ tokens_from ending end (bytes ++ rest)))
+IsFront bytes place (Token first last token end) = (place < end) × (end ≤ length bytes) × (first < length bytes) × (last < length bytes) × ((rest : List ℕ) (ending : Ending) → (is_joined (bytes ++ rest) (last, token) ≡ is_joined bytes (last, token)) × (tokens_from ending place (bytes ++ rest) ≡ Ok (first, last, token) ∷ tokens_from ending end (bytes ++ rest)))
 IsFront bytes place (Faulty fault) = (fault_place bytes (misplaced.Source fault) < length bytes) × ((rest : List ℕ) (ending : Ending) → (l : Tokens) × (tokens_from ending place (bytes ++ rest) ≡ Err fault ∷ l))
 IsFront bytes place Open = tokens_from cut place bytes ≡ []
 

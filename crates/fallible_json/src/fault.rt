@@ -1,5 +1,5 @@
 //! What is wrong with a text that is no JSON, and how that is told.
-ghost use Rattle.std.specs.Prelude.{◌≡◌, ◌+◌, ◌<◌, ◌^◌, ◌++◌, OnErr, OnOk, codes, decimal, length};
+ghost use Rattle.std.specs.Prelude.{◌≡◌, ◌+◌, ◌≤◌, ◌^◌, ◌++◌, OnErr, OnOk, codes, decimal, length};
 ghost use Rattle.std.specs.Io.KnownBytes.{Appends};
 ghost use Rattle.fallible_json.specs.Faults.{byte_text, fault_at, fault_from, status_of, text_of, text_of_text};
 ghost use Rattle.fallible_json.specs.Wanted.{wanted_text};
@@ -35,8 +35,8 @@ pub(crate) fn fault_from(
     place: usize,
     wanted: Wanted,
 ) -> JsonFault
-    requires line { origin.0 + length text.now < 2 ^ 63 }
-    requires column { origin.1 + length text.now < 2 ^ 63 }
+    requires line { origin.0 + length text.now ≤ 2 ^ 63 }
+    requires column { origin.1 + length text.now ≤ 2 ^ 63 }
     ensures { result ≡ fault_from origin text.now place wanted }
 {
     if place < text.len() {

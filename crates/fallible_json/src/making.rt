@@ -1,5 +1,5 @@
 //! What takes JSON texts, and has the memory for them.
-ghost use Rattle.std.specs.Prelude.{◌≡◌, ◌+◌, ◌<◌, ◌≤◌, ⊤, Err, IfOk, OnErr, OnOk, length, take};
+ghost use Rattle.std.specs.Prelude.{◌≡◌, ◌*◌, ◌<◌, ◌≤◌, ⊤, Err, IfOk, OnErr, OnOk, length, take};
 ghost use Rattle.fallible_iterator.specs.Fault.TheVariants.{Memory, Source};
 ghost use Rattle.fallible_json.specs.Taking.{FindsFault, FindsLastFault, Fits, Takes, TakesAll};
 ghost use Rattle.fallible_json.specs.declared.fault.JsonFault.{JsonFault};
@@ -20,7 +20,7 @@ pub trait MakeTexts {
 
     /// Takes what no further byte could change. How many of the bytes that is; or the first fault.
     fn push(&self, texts: &mut Texts, bytes: &[u8]) -> Result<usize, Fault<JsonFault>>
-        requires { Fits texts.old (length bytes.now) }
+        requires { Fits texts.old (2 * length bytes.now) }
         ensures taken { IfOk result (λ taken. Takes texts.old bytes.now taken texts.new) }
         ensures fault { (fault : JsonFault) → result ≡ Err (Source fault)
             → FindsFault texts.old bytes.now fault texts.new }
@@ -28,7 +28,7 @@ pub trait MakeTexts {
 
     /// Takes the last bytes, and ends the text that is begun; or the first fault.
     fn finish(&self, texts: &mut Texts, bytes: &[u8]) -> Result<(), Fault<JsonFault>>
-        requires { Fits texts.old (length bytes.now + 1) }
+        requires { Fits texts.old (2 * length bytes.now) }
         ensures all { OnOk result (TakesAll texts.old bytes.now texts.new) }
         ensures fault { (fault : JsonFault) → result ≡ Err (Source fault)
             → FindsLastFault texts.old bytes.now fault texts.new }

@@ -1,5 +1,5 @@
 //! The line and the column of a byte of a text.
-ghost use Rattle.std.specs.Prelude.{◌≡◌, ◌+◌, ◌<◌, ◌^◌, length};
+ghost use Rattle.std.specs.Prelude.{◌≡◌, ◌+◌, ◌<◌, ◌≤◌, ◌^◌, length};
 ghost use Rattle.fallible_json.specs.Places.{after_byte, is_within, place_after_bytes, place_of};
 
 // Whether a byte goes on with a character of UTF-8.
@@ -26,8 +26,8 @@ fn after_byte(place: (usize, usize), byte: u8) -> (usize, usize)
 
 // The line and the column of what comes after bytes of which the first has these.
 pub(crate) fn place_after_bytes(origin: (usize, usize), bytes: &[u8]) -> (usize, usize)
-    requires line { origin.0 + length bytes.now < 2 ^ 63 }
-    requires column { origin.1 + length bytes.now < 2 ^ 63 }
+    requires line { origin.0 + length bytes.now ≤ 2 ^ 63 }
+    requires column { origin.1 + length bytes.now ≤ 2 ^ 63 }
     ensures { result ≡ place_after_bytes origin bytes.now }
 {
     let mut place = origin;

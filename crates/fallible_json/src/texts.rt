@@ -1,5 +1,5 @@
 //! JSON texts one after another, of bytes that come a part at a time.
-ghost use Rattle.std.specs.Prelude.{◌≡◌, ◌+◌, ◌<◌, ◌≤◌, ◌∷◌, [], IfOk, OnOk, Err, None, Option, true, false, length, drop};
+ghost use Rattle.std.specs.Prelude.{◌≡◌, ◌+◌, ◌*◌, ◌<◌, ◌≤◌, ◌∷◌, [], IfOk, OnOk, Err, None, Option, true, false, length, drop};
 ghost use Rattle.std.specs.Option.{is_some};
 ghost use Rattle.std.specs.Str.Lossy.{utf8_error_len, utf8_valid_len};
 ghost use Rattle.fallible_iterator.specs.Fault.TheVariants.{Source};
@@ -93,7 +93,8 @@ fn front_at(bytes: &[u8], place: usize) -> Front
                 Front::Faulty(LexFault::Unfinished(last, wanted))
             }
         }
-        Err(fault) => Front::Faulty(fault),
+        Err(LexFault::Unknown(first)) => Front::Faulty(LexFault::Unknown(first)),
+        Err(LexFault::Source(never)) => match never {},
     }
 }
 
@@ -216,7 +217,7 @@ impl Texts {
 
     // Takes what no further byte could change. How many of the bytes that is; or the first fault.
     pub(crate) fn push(&mut self, bytes: &[u8]) -> Result<usize, Fault<JsonFault>>
-        requires { Fits self.old (length bytes.now) }
+        requires { Fits self.old (2 * length bytes.now) }
         ensures taken { IfOk result (λ taken. Takes self.old bytes.now taken self.new) }
         ensures fault { (fault : JsonFault) → result ≡ Err (Source fault)
             → FindsFault self.old bytes.now fault self.new }
@@ -228,7 +229,7 @@ impl Texts {
 
     // The same, but for the place.
     fn take_settled(&mut self, bytes: &[u8]) -> Result<usize, Fault<JsonFault>>
-        requires { Fits self.old (length bytes.now) }
+        requires { Fits self.old (2 * length bytes.now) }
         ensures taken { IfOk result (λ taken. TakesUpTo self.old bytes.now taken self.new
             × (tokens_from cut taken bytes.now ≡ [])) }
         ensures fault { (fault : JsonFault) → result ≡ Err (Source fault)
@@ -251,7 +252,7 @@ impl Texts {
 
     // Takes the last bytes, and ends the text that is begun; or the first fault.
     pub(crate) fn finish(&mut self, bytes: &[u8]) -> Result<(), Fault<JsonFault>>
-        requires { Fits self.old (length bytes.now + 1) }
+        requires { Fits self.old (2 * length bytes.now) }
         ensures all { OnOk result (TakesAll self.old bytes.now self.new) }
         ensures fault { (fault : JsonFault) → result ≡ Err (Source fault)
             → FindsLastFault self.old bytes.now fault self.new }
