@@ -15,3 +15,4 @@ pub mod Texts
 pub mod Tokens
 pub mod Trees
 pub mod Wanted
+pub mod Writing

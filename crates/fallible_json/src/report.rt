@@ -1,7 +1,9 @@
 //! The JSON texts that a reader yields, without blanks, each on a line.
-ghost use Rattle.std.specs.Prelude.{◌≡◌, ◌<◌, ◌≤◌, OnErr, OnOk, length, take};
+ghost use Rattle.std.specs.Prelude.{◌+◌, ◌≤◌, OnErr, OnOk, length, take};
 ghost use Rattle.std.specs.Io.KnownBytes.{Appends};
 ghost use Rattle.fallible_json.specs.Report.{ComesTo};
+ghost use Rattle.fallible_json.specs.Taking.{Fits};
+ghost use Rattle.fallible_json.specs.Writing.{CanTell, EndsFault, PrintsLast, PrintsPart, Sends, TakesLast, TakesPart, TellsFault};
 ghost use Rattle.program_io.specs.Reading.{Fails};
 
 use crate::fault::{JsonFault, TextFault};
@@ -26,17 +28,58 @@ pub enum Prints {
 // How many bytes are read at most, so that the numbers of lines fit a `usize`.
 const MOST: usize = 1 << 62;
 
-// Writes what is printed of the texts so far, and lets go of that.
-fn write_ended<W: WriteText>(texts: &mut Texts, prints: Prints, writer: &mut W) -> io::Result<()> {
+// Writes the first bytes of the lines.
+fn write_first<W: WriteText>(texts: &Texts, count: usize, writer: &mut W) -> io::Result<()>
+    requires { count ≤ length texts.now.lines.items }
+    ensures text { OnOk result (Appends (W.written writer.old) (W.written writer.new)
+        (take count texts.now.lines.items)) }
+    ensures failed { OnErr result (W.failed writer.new) }
+{
+    if count == 0 {
+        return Ok(());
+    }
+    writer.write_bytes(&texts.lines[..count])
+}
+
+// Writes the texts that ended, and where tokens are printed those of an array or an object that is begun; and lets go of what was written.
+fn write_ended<W: WriteText>(texts: &mut Texts, prints: Prints, writer: &mut W) -> io::Result<()>
+    requires { texts.old.whole ≤ length texts.old.lines.items }
+    ensures text { OnOk result
+        (Sends prints (W.written writer.old) (W.written writer.new) texts.old texts.new) }
+    ensures failed { OnErr result (W.failed writer.new) }
+{
+    let all = match prints {
+        Prints::Texts => false,
+        Prints::Tokens => !texts.nesting.containers.is_empty(),
+    };
+    let count = if all {
+        texts.lines.len()
+    } else {
+        texts.whole
+    };
+    write_first(texts, count, writer)?;
+    texts.forget(all);
+    Ok(())
+}
+
+// Writes what is printed before a fault, and tells of that.
+fn end_with<W: WriteText>(
+    fault: RunFault<TextFault>,
+    texts: &Texts,
+    prints: Prints,
+    writer: &mut W,
+) -> RunFault<TextFault>
+    requires { texts.now.whole ≤ length texts.now.lines.items }
+    ensures { EndsFault prints (W.written writer.old) (W.written writer.new) (W.failed writer.new) texts.now fault result }
+{
     let count = match prints {
         Prints::Texts => texts.whole,
         Prints::Tokens => texts.lines.len(),
     };
-    if count > 0 {
-        writer.write_bytes(&texts.lines[..count])?;
+    match write_first(texts, count, writer) {
+        Ok(()) => fault,
+        Err(_) => RunFault::Write,
     }
-    texts.forget(prints == Prints::Tokens);
-    Ok(())
 }
 
 // Takes the texts of bytes of which the first ones are known to be UTF-8. How many are taken, and how many are UTF-8; or the first fault.
@@ -45,7 +88,11 @@ fn take_part<M: MakeTexts>(
     texts: &mut Texts,
     bytes: &[u8],
     checked: usize,
-) -> Result<(usize, usize), Fault<JsonFault>> {
+) -> Result<(usize, usize), Fault<JsonFault>>
+    requires within { checked ≤ length bytes.now }
+    requires fits { Fits texts.old (length bytes.now) }
+    ensures { TakesPart texts.old bytes.now checked (M.refused maker.now) texts.new result }
+{
     let (more, broken) = valid_len(&bytes[checked..]);
     let valid = checked + more;
     let taken = maker.push(texts, &bytes[..valid])?;
@@ -61,48 +108,92 @@ fn take_last<M: MakeTexts>(
     texts: &mut Texts,
     bytes: &[u8],
     checked: usize,
-) -> Result<(), Fault<JsonFault>> {
+) -> Result<(), Fault<JsonFault>>
+    requires fits { Fits texts.old (length bytes.now + 1) }
+    ensures { TakesLast texts.old bytes.now checked (M.refused maker.now) texts.new result }
+{
     if checked < bytes.len() {
         return Err(Fault::Source(texts.broken(&bytes[..checked])));
     }
     maker.finish(texts, bytes)
 }
 
-// What a fault of the texts comes to, of which those before it are counted.
-fn fault_of(texts: &Texts, fault: Fault<JsonFault>) -> RunFault<TextFault> {
+// Tells of a fault of the texts, of which those before it are counted.
+fn tell<W: WriteText>(
+    fault: Fault<JsonFault>,
+    texts: &Texts,
+    prints: Prints,
+    writer: &mut W,
+) -> RunFault<TextFault>
+    requires { CanTell texts.now fault }
+    ensures { TellsFault prints (W.written writer.old) (W.written writer.new)
+        (W.failed writer.new) texts.now fault result }
+{
     match fault {
-        Fault::Source(fault) => RunFault::Input(TextFault {
-            text: texts.count + 1,
-            fault,
-        }),
+        Fault::Source(fault) => {
+            let text = texts.count + 1;
+            end_with(RunFault::Input(TextFault { text, fault }), texts, prints, writer)
+        }
         Fault::Memory(_) => RunFault::Memory,
     }
 }
 
-// Writes what is printed of the texts, and then tells of a fault.
-fn written<W: WriteText>(
-    outcome: Result<(), Fault<JsonFault>>,
+// Takes the texts of bytes of which the first ones are known to be UTF-8, and writes them. How many bytes are taken, and how many are UTF-8.
+fn print_part<M: MakeTexts, W: WriteText>(
+    maker: &M,
     texts: &mut Texts,
+    bytes: &[u8],
+    checked: usize,
     prints: Prints,
     writer: &mut W,
-) -> Result<(), RunFault<TextFault>> {
-    if write_ended(texts, prints, writer).is_err() {
-        return Err(RunFault::Write);
-    }
-    match outcome {
-        Ok(()) => Ok(()),
-        Err(fault) => Err(fault_of(texts, fault)),
+) -> Result<(usize, usize), RunFault<TextFault>>
+    requires within { checked ≤ length bytes.now }
+    requires fits { Fits texts.old (length bytes.now) }
+    ensures { PrintsPart prints (W.written writer.old) (W.written writer.new) (W.failed writer.new)
+        (M.refused maker.now) texts.old bytes.now checked texts.new result }
+{
+    match take_part(maker, texts, bytes, checked) {
+        Ok(part) => match write_ended(texts, prints, writer) {
+            Ok(()) => Ok(part),
+            Err(_) => Err(RunFault::Write),
+        },
+        Err(fault) => Err(tell(fault, texts, prints, writer)),
     }
 }
 
-/// Reads JSON texts up to the end of `reader`, which may be any reader of std, and writes each to `writer` without the blanks between its tokens, and a newline, as soon as it ends. It fails with `Input` at the first fault of a text, with `Read` where a read fails, with `Memory` if that is for want of memory or `maker` has none, and with `Write` where the writer fails. An interrupted read is tried again.
+// Takes the last bytes, and writes the texts that end with them.
+fn print_last<M: MakeTexts, W: WriteText>(
+    maker: &M,
+    texts: &mut Texts,
+    bytes: &[u8],
+    checked: usize,
+    prints: Prints,
+    writer: &mut W,
+) -> Result<(), RunFault<TextFault>>
+    requires fits { Fits texts.old (length bytes.now + 1) }
+    ensures { PrintsLast prints (W.written writer.old) (W.written writer.new) (W.failed writer.new)
+        (M.refused maker.now) texts.old bytes.now checked result }
+{
+    match take_last(maker, texts, bytes, checked) {
+        Ok(()) => match write_first(texts, texts.whole, writer) {
+            Ok(()) => Ok(()),
+            Err(_) => Err(RunFault::Write),
+        },
+        Err(fault) => Err(tell(fault, texts, prints, writer)),
+    }
+}
+
+/// Reads JSON texts up to the end of `reader`, which may be any reader of std, and writes each to `writer` without the blanks between its tokens, and a newline, as soon as it ends. It fails with `Input` at the first fault of a text, with `Read` where a read fails, or after 2 ^ 62 bytes, with `Memory` if that is for want of memory or `maker` has none, and with `Write` where the writer fails. An interrupted read is tried again.
 pub fn run<M: MakeTexts, R: ReadBytes, W: WriteText>(
     alloc: Global,
     maker: &M,
     prints: Prints,
     reader: &mut R,
     writer: &mut W,
-) -> Result<(), RunFault<TextFault>> {
+) -> Result<(), RunFault<TextFault>>
+    ensures { ComesTo R.left (Fails R.left R.fails) reader.old reader.new (M.refused maker.now)
+        prints W.failed (W.written writer.old) (W.written writer.new) writer.new result }
+{
     let mut texts = Texts::new(alloc);
     let mut buffer: Vec<u8> = Vec::new(alloc);
     let mut held = 0;
@@ -115,22 +206,21 @@ pub fn run<M: MakeTexts, R: ReadBytes, W: WriteText>(
         let end = buffer.len().min(held + (MOST - read));
         let count = match read_after(reader, buffer.as_mut_slice(), held, end) {
             Ok(count) => count,
-            Err(e) => return Err(fault_of_read(&e)),
+            Err(e) => return Err(end_with(fault_of_read(&e), &texts, prints, writer)),
         };
         if count == 0 {
-            let outcome = take_last(maker, &mut texts, &buffer[..held], checked);
-            return written(outcome, &mut texts, prints, writer);
+            return print_last(maker, &mut texts, &buffer[..held], checked, prints, writer);
         }
-        read += count;
         let filled = held + count;
-        let (taken, valid) = match take_part(maker, &mut texts, &buffer[..filled], checked) {
+        let bytes = &buffer[..filled];
+        let (taken, valid) = match print_part(maker, &mut texts, bytes, checked, prints, writer) {
             Ok(part) => part,
-            Err(fault) => return written(Err(fault), &mut texts, prints, writer),
+            Err(fault) => return Err(fault),
         };
-        written(Ok(()), &mut texts, prints, writer)?;
         buffer.copy_within(taken..filled, 0);
         held = filled - taken;
         checked = valid - taken;
+        read += count;
     }
-    Err(RunFault::Read)
+    Err(end_with(RunFault::Read, &texts, prints, writer))
 }
