@@ -36,7 +36,7 @@ pub shown_first : (l rest : Tokens) (y : Result Lexeme (LexFault Infallible)) �
 shown_first [] rest y h = absurd (none_first y h.0)
 shown_first (z ∷ l) rest y h = λ i. same_first y z h.0 i ∷ sym h.1 i
 
-shown_none : (l rest : Tokens) → TakesShown l (Ok None) rest → l ≡ []
+pub shown_none : (l rest : Tokens) → TakesShown l (Ok None) rest → l ≡ []
 shown_none [] rest h = refl
 shown_none (z ∷ l) rest h = absurd (none_first z (sym h.0))
 
@@ -85,11 +85,16 @@ pub front_token : (bytes : List ℕ) (place first last end : ℕ) (token : Token
 front_token bytes place first last end token closed leaves takes =
     let same = leaves.2 in
     let short = leaves.1 in
-    let begins = leaves.3 in
-    (leaves.0, leaves.1, omega (arith, begins, short), omega (arith, same, short), λ rest ending. (
-      joined_on bytes rest first last token closed,
-      ap (tokens_by ending (bytes ++ rest)) (shown_first _ _ (Ok (first, last, token)) (takes rest)) ∙ kept_first ending (bytes ++ rest) (Ok (first, last, token)) (lexed (placed_from end (bytes ++ rest))) (open_on bytes rest (Ok (first, last, token)) closed),
-    ))
+    let begins = leaves.3 in (
+      leaves.0,
+      leaves.1,
+      omega (arith, begins, short),
+      omega (arith, same, short),
+      λ rest ending. (
+        joined_on bytes rest first last token closed,
+        ap (tokens_by ending (bytes ++ rest)) (shown_first _ _ (Ok (first, last, token)) (takes rest)) ∙ kept_first ending (bytes ++ rest) (Ok (first, last, token)) (lexed (placed_from end (bytes ++ rest))) (open_on bytes rest (Ok (first, last, token)) closed),
+      ),
+    )
 
 -- a fault is told within the bytes
 told_within : (bytes : List ℕ) (place end : ℕ) (fault : LexFault Infallible) → is_open bytes (Err fault) ≡ false → LeavesAt bytes place (Err fault) end → fault_place bytes (misplaced.Source fault) < length bytes
@@ -103,10 +108,13 @@ told_within bytes place end (Unfinished last wanted) closed leaves =
     rw is within
 
 pub front_faulty : (bytes : List ℕ) (place end : ℕ) (fault : LexFault Infallible) → is_open bytes (Err fault) ≡ false → LeavesAt bytes place (Err fault) end → ((rest : List ℕ) → TakesShown (lexed {E = Infallible} (placed_from place (bytes ++ rest))) (Err fault) (lexed (placed_from end (bytes ++ rest)))) → IsFront bytes place (Faulty fault)
-front_faulty bytes place end fault closed leaves takes = (told_within bytes place end fault closed leaves, λ rest ending. (
-  tokens_from ending end (bytes ++ rest),
-  ap (tokens_by ending (bytes ++ rest)) (shown_first _ _ (Err fault) (takes rest)) ∙ kept_first ending (bytes ++ rest) (Err fault) (lexed (placed_from end (bytes ++ rest))) (open_on bytes rest (Err fault) closed),
-))
+front_faulty bytes place end fault closed leaves takes = (
+  told_within bytes place end fault closed leaves,
+  λ rest ending. (
+    tokens_from ending end (bytes ++ rest),
+    ap (tokens_by ending (bytes ++ rest)) (shown_first _ _ (Err fault) (takes rest)) ∙ kept_first ending (bytes ++ rest) (Err fault) (lexed (placed_from end (bytes ++ rest))) (open_on bytes rest (Err fault) closed),
+  ),
+)
 
 pub front_none : (bytes : List ℕ) (place end : ℕ) → TakesShown (lexed {E = Infallible} (placed_from place bytes)) (Ok None) (lexed (placed_from end bytes)) → IsFront bytes place Open
 front_none bytes place end takes = ap (tokens_by cut bytes) (shown_none (lexed (placed_from place bytes)) (lexed (placed_from end bytes)) takes)

@@ -2,6 +2,7 @@ mod BeginningLemmas
 mod FaultLemmas
 mod FrontLemmas
 mod JsonLemmas
+mod LastLemmas
 mod LexemeLemmas
 mod LexingLemmas
 mod MinifyingLemmas
@@ -15,9 +16,11 @@ mod SameTreeLemmas
 mod ShiftLemmas
 mod SpelledJsonLemmas
 mod SpelledLemmas
+mod TakenLemmas
 mod TakingLemmas
 mod TextDrawsLemmas
 mod TextLemmas
+mod TextRunLemmas
 mod TextTokensLemmas
 mod TreeLemmas
 mod WantedLemmas

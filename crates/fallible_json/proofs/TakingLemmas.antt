@@ -34,7 +34,7 @@ lines_append : (a b : List (List ℕ)) → lines_of (a ++ b) ≡ lines_of a ++ l
 lines_append [] b = refl
 lines_append (text ∷ a) b = ap (λ l. (text ++ 10 ∷ []) ++ l) (lines_append a b) ∙ sym (append_assoc (text ++ 10 ∷ []) (lines_of a) (lines_of b))
 
-before_append : (a b : List (List ℕ)) (others : List Text) → (a ++ b) before others ≡ a before (b before others)
+pub before_append : (a b : List (List ℕ)) (others : List Text) → (a ++ b) before others ≡ a before (b before others)
 before_append [] b others = refl
 before_append (text ∷ a) b others = ap (λ l. Ok text ∷ l) (before_append a b others)
 
@@ -78,11 +78,11 @@ fault_in_front origin bytes rest place wanted within =
     rw (here, there, byte_in_front bytes rest place within, take-append-le place bytes rest (omega (arith, within))) refl
 
 -- the texts of tokens of which the first breaks off, and of which the first may not stand there
-texts_break : (origin : ℕ × ℕ) (text : List ℕ) (ending : Ending) (b : State × List ℕ) (e : LexFault Infallible) (l : Tokens) → texts_from origin text ending b (Err e ∷ l) ≡ Err (b.1, fault_from origin text (fault_place text (misplaced.Source e)) (wanted_at (misplaced.Source e) (wanted_of b.0))) ∷ []
+pub texts_break : (origin : ℕ × ℕ) (text : List ℕ) (ending : Ending) (b : State × List ℕ) (e : LexFault Infallible) (l : Tokens) → texts_from origin text ending b (Err e ∷ l) ≡ Err (b.1, fault_from origin text (fault_place text (misplaced.Source e)) (wanted_at (misplaced.Source e) (wanted_of b.0))) ∷ []
 unfolding texts_from
 texts_break origin text ending (state, json) e l = refl
 
-texts_misplaced : (origin : ℕ × ℕ) (text : List ℕ) (ending : Ending) (b : State × List ℕ) (x : Lexeme) (l : Tokens) → after_token b.0 x.2 ≡ None → texts_from origin text ending b (Ok x ∷ l) ≡ Err (b.1, fault_from origin text x.0 (wanted_of b.0)) ∷ []
+pub texts_misplaced : (origin : ℕ × ℕ) (text : List ℕ) (ending : Ending) (b : State × List ℕ) (x : Lexeme) (l : Tokens) → after_token b.0 x.2 ≡ None → texts_from origin text ending b (Ok x ∷ l) ≡ Err (b.1, fault_from origin text x.0 (wanted_of b.0)) ∷ []
 unfolding texts_from
 texts_misplaced origin text ending (state, json) x l is = rw is refl
 

@@ -16,3 +16,4 @@ pub mod Tokens
 pub mod Trees
 pub mod Wanted
 pub mod Writing
+pub mod WrittenTexts

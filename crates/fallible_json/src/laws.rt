@@ -1,15 +1,21 @@
 //! What the words of the clauses come to, as functions whose body is empty.
-ghost use Rattle.std.specs.Prelude.{◌≡◌, ◌++◌, ◌∷◌, ℕ, Err, List, Ok, Result, []};
+ghost use Rattle.std.specs.Prelude.{◌≡◌, ◌++◌, ◌∷◌, ◌⊎◌, ℕ, Err, List, Ok, Result, [], map, take};
 ghost use Rattle.std.specs.Str.{IsUtf8};
+ghost use Rattle.std.specs.Str.Lossy.{utf8_valid_len};
 ghost use Rattle.std.specs.declared.convert.Infallible.{Infallible};
 ghost use Rattle.fallible_iterator.specs.Lists.{items, numbered};
 ghost use Rattle.fallible_json.specs.Expected.{GoOnWith};
 ghost use Rattle.fallible_json.specs.Grammar.{IsJsonText};
-ghost use Rattle.fallible_json.specs.Json.{IsJson};
+ghost use Rattle.fallible_json.specs.Json.{IsJson, not_text_at, told};
 ghost use Rattle.fallible_json.specs.Lexing.{Lexeme, lexed};
 ghost use Rattle.fallible_json.specs.Minifying.{bytes_of_all, minified, minified_or_wanted};
+ghost use Rattle.fallible_json.specs.Places.{place_of};
 ghost use Rattle.fallible_json.specs.Spelled.{Spell, SpellLongest, spelled};
+ghost use Rattle.fallible_json.specs.Taking.{◌before◌};
+ghost use Rattle.fallible_json.specs.Texts.{Tokens, cut, texts_of, tokens_by};
 ghost use Rattle.fallible_json.specs.Trees.{BeginsTree, Tree, tokens_of, written};
+ghost use Rattle.fallible_json.specs.WrittenTexts.{BeginWithPart, BeginWithTexts};
+ghost use Rattle.fallible_json.specs.declared.fault.JsonFault.{JsonFault};
 ghost use Rattle.fallible_json.specs.declared.minifying.Misplaced.{Misplaced};
 ghost use Rattle.fallible_json.specs.declared.minifying.Misplaced.TheVariants.{Ended, Source, Unexpected};
 ghost use Rattle.fallible_json.specs.declared.token.Token.{Token};
@@ -102,4 +108,24 @@ pub fn law_wanted<E>()
     ensures ended { (text : List ℕ) (before : List Lexeme) (fault : Misplaced E) (wanted : Wanted)
         → minified_or_wanted text (items before) ≡ Err (fault, wanted)
         → BeginsTree (tokens_of before) → GoOnWith (tokens_of before) wanted }
+{}
+
+/// The texts of an input are what is written of trees, one after the other. If it has no fault, it is UTF-8 and has no other tokens. If it is UTF-8, its fault is that of the tokens after the texts, as if these were all. Otherwise it is that of the tokens in front, or the byte that is no UTF-8. And an input that is one JSON text is this text alone.
+pub fn law_texts()
+    ensures ended { (bytes : List ℕ) (texts : List (List ℕ))
+        → texts_of bytes ≡ map (λ text. Ok text) texts
+        → IsUtf8 bytes × BeginWithTexts bytes texts (lexed (numbered 0 (items bytes))) [] }
+    ensures faulty { (bytes json : List ℕ) (texts : List (List ℕ)) (fault : JsonFault) → IsUtf8 bytes
+        → texts_of bytes ≡ texts before Err (json, fault) ∷ []
+        → (others : Tokens) × BeginWithTexts bytes texts (lexed (numbered 0 (items bytes))) others
+        × BeginWithPart bytes json others
+        × (told bytes (minified_or_wanted bytes others) ≡ Err fault) }
+    ensures broken { (bytes json : List ℕ) (texts : List (List ℕ)) (fault : JsonFault)
+        → ¬ (IsUtf8 bytes) → texts_of bytes ≡ texts before Err (json, fault) ∷ []
+        → let front = take (utf8_valid_len bytes) bytes in (others : Tokens)
+        × BeginWithTexts front texts (tokens_by cut front (lexed (numbered 0 (items front)))) others
+        × BeginWithPart front json others
+        × ((told front (minified_or_wanted front others) ≡ Err fault)
+        ⊎ (fault ≡ not_text_at (place_of bytes (utf8_valid_len bytes)))) }
+    ensures one { (bytes json : List ℕ) → IsJson bytes json → texts_of bytes ≡ Ok json ∷ [] }
 {}

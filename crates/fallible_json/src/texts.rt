@@ -222,9 +222,13 @@ impl Texts {
         ensures fault { (fault : JsonFault) → result ≡ Err (Source fault)
             → FindsFault self.old bytes.now fault self.new }
     {
-        let taken = self.take_settled(bytes)?;
-        self.place = place_after_bytes(self.place, &bytes[..taken]);
-        Ok(taken)
+        match self.take_settled(bytes) {
+            Ok(taken) => {
+                self.place = place_after_bytes(self.place, &bytes[..taken]);
+                Ok(taken)
+            }
+            Err(fault) => Err(fault),
+        }
     }
 
     // The same, but for the place.
@@ -239,8 +243,10 @@ impl Texts {
         loop {
             match front_at(bytes, at) {
                 Front::Token(first, last, token, end) => {
-                    self.take(bytes, first, last, token)?;
-                    at = end;
+                    match self.take(bytes, first, last, token) {
+                        Ok(()) => at = end,
+                        Err(fault) => return Err(fault),
+                    }
                 }
                 Front::Faulty(fault) => {
                     return Err(Fault::Source(self.told(bytes, Misplaced::Source(fault))));
@@ -262,8 +268,10 @@ impl Texts {
             let (drawn, end) = token_at(bytes, at);
             match drawn {
                 Ok(Some((first, last, token))) => {
-                    self.take(bytes, first, last, token)?;
-                    at = end;
+                    match self.take(bytes, first, last, token) {
+                        Ok(()) => at = end,
+                        Err(fault) => return Err(fault),
+                    }
                 }
                 Ok(None) => return self.end(bytes),
                 Err(fault) => {

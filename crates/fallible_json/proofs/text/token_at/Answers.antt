@@ -25,7 +25,7 @@ returns-in-Some c =
     let first = c.blanks_end-first.result in
     let within : first < length text = search rules in
     let takes : (rest : List ℕ) → TakesShown (lexed {E = Infallible} (placed_from c.args.place (text ++ rest))) (Ok (Some (first, first, c.in-Some.token))) (lexed (placed_from (first + 1) (text ++ rest))) = λ rest.
-        takes_sign (text ++ rest) c.args.place first c.in-Some.token (c.blanks_end-first.ensures.tokens rest) (within_front text rest first within) (ap is_blank (byte_in_front text rest first within) ∙ c.blanks_end-first.ensures.ends within) (ap sign_of (byte_in_front text rest first within) ∙ search rules) in
+    takes_sign (text ++ rest) c.args.place first c.in-Some.token (c.blanks_end-first.ensures.tokens rest) (within_front text rest first within) (ap is_blank (byte_in_front text rest first within) ∙ c.blanks_end-first.ensures.ends within) (ap sign_of (byte_in_front text rest first within) ∙ search rules) in
     record { draws = draws_alone text c.args.place (first + 1) _ takes; settled = λ rest settled. takes rest; leaves = (omega (arith, c.blanks_end-first.ensures.later), omega (arith, within), refl, omega arith) }
 
 pub returns-in_default-letter_begun : goal.returns-in_default-letter_begun
@@ -35,7 +35,7 @@ returns-in_default-letter_begun c =
     let within : first < length text = search rules in
     let none : begun_by (get_or text first 0) ≡ None = begun_by_letter (get_or text first 0) None (search rules) (search rules) in
     let takes : (rest : List ℕ) → TakesShown (lexed {E = Infallible} (placed_from c.args.place (text ++ rest))) (Err (Unknown first)) (lexed (placed_from (first + 1) (text ++ rest))) = λ rest.
-        takes_unknown (text ++ rest) c.args.place first (c.blanks_end-first.ensures.tokens rest) (within_front text rest first within) (ap is_blank (byte_in_front text rest first within) ∙ c.blanks_end-first.ensures.ends within) (ap begun_by (byte_in_front text rest first within) ∙ none) in
+    takes_unknown (text ++ rest) c.args.place first (c.blanks_end-first.ensures.tokens rest) (within_front text rest first within) (ap is_blank (byte_in_front text rest first within) ∙ c.blanks_end-first.ensures.ends within) (ap begun_by (byte_in_front text rest first within) ∙ none) in
     record { draws = draws_alone text c.args.place (first + 1) _ takes; settled = λ rest settled. takes rest; leaves = (omega (arith, c.blanks_end-first.ensures.later), within) }
 
 pub returns-clause-draws : goal.returns-clause-draws
