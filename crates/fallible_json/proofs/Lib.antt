@@ -1,6 +1,9 @@
 mod BeginningLemmas
+mod BufferLemmas
 mod FaultLemmas
+mod FewTextsLemmas
 mod FrontLemmas
+mod FrontedLemmas
 mod JsonLemmas
 mod LastLemmas
 mod LexemeLemmas
@@ -11,9 +14,11 @@ mod PlaceLemmas
 mod PrintedLemmas
 mod ReadLemmas
 mod Reading
+mod ReportLemmas
 mod RunLemmas
 mod SameTreeLemmas
 mod ShiftLemmas
+mod SoFarLemmas
 mod SpelledJsonLemmas
 mod SpelledLemmas
 mod TakenLemmas
@@ -23,4 +28,5 @@ mod TextLemmas
 mod TextRunLemmas
 mod TextTokensLemmas
 mod TreeLemmas
+mod Utf8Lemmas
 mod WantedLemmas

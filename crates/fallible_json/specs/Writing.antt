@@ -1,7 +1,9 @@
 -- What is written of the texts while they are read.
-use Rattle.std.specs.Prelude.{◌≡◌, ◌⊎◌, ⊤, ℕ, ◌+◌, ◌<◌, ◌≤◌, ◌^◌, true, List, [], ◌∷◌, ◌++◌, length, take, drop, Option, Ok, Err, Result}
+use Rattle.std.specs.Prelude.{◌≡◌, ◌≢◌, ◌⊎◌, ⊤, ℕ, ◌+◌, ◌<◌, ◌≤◌, ◌^◌, true, List, [], ◌∷◌, ◌++◌, length, take, drop, Option, Ok, Err, Result}
 use Rattle.std.specs.Option.{is_some}
-use Rattle.std.specs.Io.KnownBytes.{Appends}
+use Rattle.std.specs.Io.KnownBytes.{Appends, Consumes, IsAtEnd, Keeps}
+use Rattle.std.specs.declared.io.ErrorKind.{ErrorKind}
+use Rattle.std.specs.declared.io.ErrorKind.TheVariants.{OutOfMemory}
 use Rattle.std.specs.Str.Lossy.{utf8_error_len, utf8_valid_len}
 use Rattle.fallible_iterator.specs.Fault.{Fault}
 use Rattle.fallible_iterator.specs.Fault.TheVariants.{Source, Memory}
@@ -21,6 +23,14 @@ use Rattle.program_io.specs.declared.fault.RunFault.TheVariants as run
 abbrev pub printed : Prints → List (List ℕ) → List ℕ → List ℕ
 printed how.Texts texts json = lines_of texts
 printed how.Tokens texts json = lines_of texts ++ json
+
+module _ {R : Type 0} (left : R → Option (List ℕ)) (fails : ErrorKind → R → R → Type 0) (refused : Type 0) where
+  -- Bytes were put after those that a buffer held, so many at most, and none only at the end; or nothing was read, since a read failed or no memory was there.
+  abbrev pub Fills : R → List ℕ → ℕ → ℕ → Result ℕ (RunFault TextFault) → List ℕ → R → Type 0
+  Fills r old held most (Ok count) buffer q = (take held buffer ≡ take held old) × (held + count ≤ length buffer) × (count ≤ most) × Consumes (left r) (left q) (take count (drop held buffer)) × (count ≡ 0 → IsAtEnd (left q))
+  Fills r old held most (Err run.Read) buffer q = Keeps (left r) (left q) × ((kind : ErrorKind) × (kind ≢ OutOfMemory) × fails kind r q)
+  Fills r old held most (Err run.Memory) buffer q = Keeps (left r) (left q) × (fails OutOfMemory r q ⊎ refused)
+  Fills r old held most (Err other) buffer q = ⊥
 
 -- the lines that are printed at last: those of the texts that ended, and where tokens are printed those of the one that is begun
 abbrev pub last_lines : Prints → Texts → List ℕ

@@ -1,9 +1,9 @@
 //! The JSON texts that a reader yields, without blanks, each on a line.
-ghost use Rattle.std.specs.Prelude.{◌+◌, ◌≤◌, OnErr, OnOk, length, take};
+ghost use Rattle.std.specs.Prelude.{◌≡◌, ◌+◌, ◌-◌, ◌<◌, ◌≤◌, ◌^◌, OnErr, OnOk, length, take, drop};
 ghost use Rattle.std.specs.Io.KnownBytes.{Appends};
 ghost use Rattle.fallible_json.specs.Report.{ComesTo};
 ghost use Rattle.fallible_json.specs.Taking.{Fits};
-ghost use Rattle.fallible_json.specs.Writing.{CanTell, EndsFault, PrintsLast, PrintsPart, Sends, TakesLast, TakesPart, TellsFault};
+ghost use Rattle.fallible_json.specs.Writing.{CanTell, EndsFault, Fills, PrintsLast, PrintsPart, Sends, TakesLast, TakesPart, TellsFault};
 ghost use Rattle.program_io.specs.Reading.{Fails};
 
 use crate::fault::{JsonFault, TextFault};
@@ -90,7 +90,7 @@ fn take_part<M: MakeTexts>(
     checked: usize,
 ) -> Result<(usize, usize), Fault<JsonFault>>
     requires within { checked ≤ length bytes.now }
-    requires fits { Fits texts.old (length bytes.now) }
+    requires fits { Fits texts.old (length bytes.now + 1) }
     ensures { TakesPart texts.old bytes.now checked (M.refused maker.now) texts.new result }
 {
     let (more, broken) = valid_len(&bytes[checked..]);
@@ -148,7 +148,7 @@ fn print_part<M: MakeTexts, W: WriteText>(
     writer: &mut W,
 ) -> Result<(usize, usize), RunFault<TextFault>>
     requires within { checked ≤ length bytes.now }
-    requires fits { Fits texts.old (length bytes.now) }
+    requires fits { Fits texts.old (length bytes.now + 1) }
     ensures { PrintsPart prints (W.written writer.old) (W.written writer.new) (W.failed writer.new)
         (M.refused maker.now) texts.old bytes.now checked texts.new result }
 {
@@ -183,6 +183,42 @@ fn print_last<M: MakeTexts, W: WriteText>(
     }
 }
 
+// Reads bytes into a buffer, after the first `held` ones, `most` at most. How many they are, 0 at the end.
+fn fill<M: MakeTexts, R: ReadBytes>(
+    maker: &M,
+    reader: &mut R,
+    buffer: &mut Vec<u8>,
+    held: usize,
+    most: usize,
+) -> Result<usize, RunFault<TextFault>>
+    requires within { held ≤ length buffer.old.items }
+    requires some { 0 < most }
+    requires fits { held + most < 2 ^ 64 }
+    ensures { Fills R.left (Fails R.left R.fails) (M.refused maker.now) reader.old buffer.old.items
+        held most result buffer.new.items reader.new }
+{
+    match maker.widen(buffer, held) {
+        Ok(()) => {}
+        Err(_) => return Err(RunFault::Memory),
+    }
+    let end = buffer.len().min(held + most);
+    match read_after(reader, buffer.as_mut_slice(), held, end) {
+        Ok(count) => Ok(count),
+        Err(e) => Err(fault_of_read(&e)),
+    }
+}
+
+// Moves the bytes of a buffer from `taken` to `filled` to its front.
+fn keep_rest(buffer: &mut Vec<u8>, taken: usize, filled: usize)
+    requires within { taken ≤ filled }
+    requires room { filled ≤ length buffer.old.items }
+    ensures room { length buffer.new.items ≡ length buffer.old.items }
+    ensures rest { take (filled - taken) buffer.new.items
+        ≡ take (filled - taken) (drop taken buffer.old.items) }
+{
+    buffer.copy_within(taken..filled, 0);
+}
+
 /// Reads JSON texts up to the end of `reader`, which may be any reader of std, and writes each to `writer` without the blanks between its tokens, and a newline, as soon as it ends. It fails with `Input` at the first fault of a text, with `Read` where a read fails, or after 2 ^ 62 bytes, with `Memory` if that is for want of memory or `maker` has none, and with `Write` where the writer fails. An interrupted read is tried again.
 pub fn run<M: MakeTexts, R: ReadBytes, W: WriteText>(
     alloc: Global,
@@ -200,13 +236,9 @@ pub fn run<M: MakeTexts, R: ReadBytes, W: WriteText>(
     let mut checked = 0;
     let mut read = 0;
     while read < MOST {
-        if maker.widen(&mut buffer, held).is_err() {
-            return Err(RunFault::Memory);
-        }
-        let end = buffer.len().min(held + (MOST - read));
-        let count = match read_after(reader, buffer.as_mut_slice(), held, end) {
+        let count = match fill(maker, reader, &mut buffer, held, MOST - read) {
             Ok(count) => count,
-            Err(e) => return Err(end_with(fault_of_read(&e), &texts, prints, writer)),
+            Err(fault) => return Err(end_with(fault, &texts, prints, writer)),
         };
         if count == 0 {
             return print_last(maker, &mut texts, &buffer[..held], checked, prints, writer);
@@ -217,7 +249,7 @@ pub fn run<M: MakeTexts, R: ReadBytes, W: WriteText>(
             Ok(part) => part,
             Err(fault) => return Err(fault),
         };
-        buffer.copy_within(taken..filled, 0);
+        keep_rest(&mut buffer, taken, filled);
         held = filled - taken;
         checked = valid - taken;
         read += count;
