@@ -1,8 +1,8 @@
-"""The tables of docs/CALLING.md: of each call what it lists or returns, what it leaves, and its hint."""
+"""The tables of docs/CALLING.md: of each call what it lists or returns, and what it leaves."""
 
 import re
 
-from made import code, hints, index, terms
+from made import code, terms
 from made.tree import code_of_library
 
 CORE, ABOVE = "fallible_core/src", "fallible_iterator/src"
@@ -22,7 +22,7 @@ TABLES = {
 }
 DRAWN = "| Call | Value | Left | If it returns |\n|---|---|---|---|"
 HEADS = {
-    "adapter": "| Call | Lists | Hint |\n|---|---|---|",
+    "adapter": "| Call | Lists |\n|---|---|",
     "consuming": "| Call | Value |\n|---|---|",
     "borrowing": DRAWN,
     "other": DRAWN,
@@ -30,10 +30,17 @@ HEADS = {
 # the clauses that state a list or a value of one
 STATING = ("lists", "value", "rest", "results", "items", "repeats", "shown", "reads", "for_good")
 OF_LIST = re.compile(r"OverList|OverBoth|Lists\b")
+ITERATOR = re.compile(r"Iterator for (&mut I|\w+)")
 BORROWS = re.compile(r"\( ?(?:alloc: Global, )?(?:&(?:mut )?self|\w+: &mut )")
 # what a word of a clause says besides the list
 SAID_OF = {"Repeats": " at each draw", "ListsMade": ", up to an allocation failure", "ListsUnlessRefused": ", up to an allocation failure",
            "ListsUntilRefused": ", up to an allocation failure", "EachRunFrom": ", as std reads it", "ListsForGood": ", fused"}
+
+
+def iterators(files):
+    """The types that are iterators: those that write `size_hint`."""
+    functions = [function for path in files for function in code.functions(path) if function.name == "size_hint"]
+    return {found.group(1) for found in (ITERATOR.search(function.owner) for function in functions) if found}
 
 
 def made_type(function):
@@ -42,13 +49,13 @@ def made_type(function):
     return "&mut I" if name.startswith("&mut") else re.match(r"[\w:]*", name).group().rsplit("::", 1)[-1]
 
 
-def kind(function, of_types):
+def kind(function, types):
     """Whether a function is a call that makes an iterator, borrows one or consumes one; none if it is no call."""
     hidden = function.name.startswith("drive") or function.name in ("size_hint", "number")
     stated = function.in_trait or function.is_helper and function.clauses
     if hidden or not function.public or not stated:
         return None
-    if made_type(function) in of_types:
+    if made_type(function) in types:
         return "adapter"
     states = {"value", "lists"}.intersection(named for _, named, _ in function.clauses)
     if not states and not function.owner:
@@ -103,6 +110,8 @@ class Row:
         text = shown + SAID_OF.get(word, "") + where
         if word == "ListsForGood" and shown + where in cells:
             cells[cells.index(shown + where)] = text
+        elif word == "ListsForGood" and shown in cells:
+            cells.append(SAID_OF[word].removeprefix(", ") + where)
         elif text not in cells:
             cells.append(text)
 
@@ -117,42 +126,28 @@ def cell(parts):
     return "; ".join(parts).replace("|", "\\|") or "–"
 
 
-def line(row, wanted, of_types):
+def line(row, wanted):
     """The line of a call in a table of that kind."""
     cells = [call(row.function), cell(row.values)]
-    if wanted == "adapter":
-        cells.append(of_types[made_type(row.function)].replace("|", "\\|"))
-    elif wanted != "consuming":
+    if wanted not in ("adapter", "consuming"):
         cells += [cell(row.left), "; ".join(row.returned)]
     return f"| {' | '.join(cells)} |"
 
 
-def table(name, crates, of_types):
+def table(name, crates, types):
     """The lines of a table."""
     wanted, files = TABLES[name]
     kinds = {"other": ("borrowing", "consuming")}.get(wanted, (wanted,))
     rows = []
     for path in (crates / file for file in files):
         found = code.functions(path) if path.is_file() else []
-        of_kind = [Row(function) for function in found if kind(function, of_types) in kinds]
+        of_kind = [Row(function) for function in found if kind(function, types) in kinds]
         # a call that makes no iterator and states nothing of a list has no line
-        rows += [line(row, wanted, of_types) for row in of_kind if wanted == "adapter" or row.values or row.left]
+        rows += [line(row, wanted) for row in of_kind if wanted == "adapter" or row.values or row.left]
     return [HEADS[wanted], *rows]
 
 
-def types_made(name, crates, of_types):
-    """The calls of a table of adapters, each with the type that it makes."""
-    found = [function for file in TABLES[name][1] if (crates / file).is_file() for function in code.functions(crates / file)]
-    return [(function.name, made_type(function)) for function in found if kind(function, of_types) == "adapter"]
-
-
 def tables(crates):
-    """Each table of calls, and the functions that the hints name, by its name."""
-    files = code_of_library(crates)
-    of_types = hints.hints(files)
-    made = {name: table(name, crates, of_types) for name in TABLES}
-    shown = [made_by for name, (wanted, _) in TABLES.items() if wanted == "adapter" for made_by in types_made(name, crates, of_types)]
-    sentences = {word: said for _, _, path in index.files(crates) for group, said in index.words(path) for word in group}
-    legend = hints.legend(shown, of_types, files, sentences)
-    made["hints"] = ["| In a hint | What it is |\n|---|---|", *legend]
-    return made
+    """Each table of calls, by its name."""
+    types = iterators(code_of_library(crates))
+    return {name: table(name, crates, types) for name in TABLES}

@@ -1,4 +1,4 @@
-"""Reads the functions and the fields of a `.rt` file: comments, clauses, bodies, and the impl that they stand in."""
+"""Reads the functions of a `.rt` file: comments, clauses, bodies, and the impl that they stand in."""
 
 import dataclasses
 import functools
@@ -9,8 +9,6 @@ CLAUSE = re.compile(r"\b(ensures|requires)(?: (\w+))?\s*\{")
 OWNER = re.compile(r"^(?:pub )?(impl|trait)\b", re.MULTILINE)
 TYPE = re.compile(r"FallibleIterator for (&mut I|\w+)")
 RENAMED = re.compile(r"^ghost use [\w.]+ as (\w+);", re.MULTILINE)
-STRUCT = re.compile(r"^(?:pub(?:\(crate\))? )?struct (\w+)")
-FIELD = re.compile(r"^\s*(?:pub(?:\(crate\))? )?(\w+): ")
 BRACKETS = {opening: re.compile(rf"[\{opening}\{closing}]") for opening, closing in ("()", "[]", "{}")}
 
 
@@ -149,18 +147,6 @@ def functions_of(whole):
         bare = without_clauses(text[named.end():begin])
         found.append(Function(named.group(2), public, owner, parameters, returned, clauses, body, comment, renamed, bare))
     return found
-
-
-def field_comments(path):
-    """The comment above each field of a file's structs that has one, by the struct's name and the field's."""
-    comments, above, struct = {}, "", ""
-    for line in lines_of(path):
-        begun, named = STRUCT.match(line), FIELD.match(line)
-        struct = begun.group(1) if begun else struct
-        if named and above:
-            comments.setdefault(struct, {}).setdefault(named.group(1), above)
-        above = line.strip()[2:].strip() if line.strip().startswith("// ") else ""
-    return comments
 
 
 def split_at(text, mark, opening="([{⟦", closing=")]}⟧"):

@@ -1,82 +1,37 @@
-"""The tables of docs/DEFINITIONS.md: the definition of each type over whole traces, and its contract, by their sentences."""
+"""The lists of docs/DEFINITIONS.md: each type with its place in docs/INDEX.md, where its definition stands, and the types with two ends.
+
+The sentence over a type's trace can be read by itself, and is none of another's."""
 
 import re
 
 from made import index
 from made.tree import code_of_library
 
-HEAD = "| {} | Its trace | Its contract |\n|---|---|---|"
-NAMES = (
-    "definitions of sources", "definitions of adapters", "definitions of adapters that join",
-    "definitions of fallible_itertools", "definitions that types share",
-)
+NAMES = ("sources defined", "adapters defined", "joining adapters defined", "adapters of fallible_itertools defined")
 STRUCT = re.compile(r"^pub struct (\w+)", re.MULTILINE)
 FIELD = re.compile(r"^  -- (.*)\n  pub (\w+) :", re.MULTILINE)
 RECORDS = {"fields of Contract": "Contract", "fields of Ends": "Ends"}
 TWO_ENDS = re.compile(r"\bDoubleEndedFallibleIterator\s+for (&mut I|\w+)")
-# What a type lists from both ends is said before its block of `Listed`.
-LISTED = re.compile(r"^/// ([^\n]+)\nimpl\b[^{]*?\bListed\s+for (&mut I|\w+)", re.MULTILINE)
 
-# The words of a file that say a part of a definition and are no trace.
-PARTS = {
-    "ByNumber": ["KeptByNumber"],
-    "Cycle": ["Laps"],
-    "Flatten": ["Finished", "FinishedPart"],
-    "MergeTree": ["TreeDraws"],
-    "Peekable": ["held_of", "peekable_step_back", "Peeks", "NextIf"],
-    "Staging": ["DrawsUpTo", "stage_step"],
-}
-# Those that say a part of a contract.
-OF_CONTRACTS = {"Chain": ["chain_bound"], "Flatten": ["FlattenNumber"]}
-# How a contract's sentence ends with its hint.
-HINTED = re.compile(r"(?:^|, and )(?:its hint (?:has|is) |has the source's hint).*")
-PARTS_ARE = re.compile(r" The parts are [^.]*\.?")
+# Types that consumers make, and no caller sees.
+INNER = ("Keyed", "Parted")
 # How a sentence begins that can't be read by itself.
 FRAGMENT = re.compile(r"(?:with|which|by|and) ")
 
 
-def table_of(crate, place, types):
-    """The name of the table that a file of `specs/` is in."""
-    if place.rsplit("/", 1)[-1] not in types:
-        return "definitions that types share"
+def list_of(crate, place):
+    """The name of the list that a type's file of `specs/` is in."""
     if crate == "fallible_iterator":
-        return "definitions of sources"
+        return NAMES[0]
     if crate not in ("fallible_contract", "fallible_core"):
-        return "definitions of fallible_itertools"
-    return "definitions of adapters that join" if place.startswith("Joining/") else "definitions of adapters"
+        return NAMES[3]
+    return NAMES[2] if place.startswith("Joining/") else NAMES[1]
 
 
-def without_type(name, sentence):
-    """A sentence without the name of the type that it begins with, or of the contract that it is of, and without its hint, which CALLING has."""
-    said = re.sub(rf"^`{name}`(?:: |'s? contract\.? ?(?:: |, |$|(?=\w)))", "", sentence)
-    return HINTED.sub("", re.sub(r"^The contract(?:: | of `\w+`\. )", "", said))
-
-
-def cell(name, words):
-    """The sentences of words, of which the first goes without its name if it is of the type. INDEX tells what its parts are."""
-    said = []
-    for place, (word, sentence) in enumerate((word, PARTS_ARE.sub("", sentence)) for word, sentence in words):
-        own = place == 0 and (f"`{name}`" in sentence.split(".")[0] or not sentence.startswith(("A ", "The ")))
-        shown = without_type(name, sentence).rstrip(".")
-        said += [f"{shown}." if own else f"`{word}`: {shown}."] if shown else []
-    return " ".join(said).replace("|", "\\|") or "–"
-
-
-def line(name, groups, shared):
-    """The line of a type or of what types share; none if the file has no trace or, of a type, no contract either."""
-    named = [(group[0], sentence) for group, sentence in groups]
-    traces = sorted((each for each in named if each[0].endswith("Trace")), key=lambda each: not each[1].startswith(f"`{name}`"))
-    traces += [each for each in named if each[0] in PARTS.get(name, [])]
-    contracts = sorted((each for each in named if each[0].endswith("_contract")), key=lambda each: f"`{name}`" not in each[1])
-    contracts += [each for each in named if each[0] in OF_CONTRACTS.get(name, [])]
-    if not traces and (shared or not contracts):
-        return None
-    for said in (cell(name, words) for words in (traces, contracts) if not shared and words):
-        if FRAGMENT.match(said):
-            raise ValueError(f"{name}: the sentence {said!r} of its definition can't be read by itself")
-    if shared:
-        return f"| `{name}` | {cell('', [('', ''), *traces])} | {cell('', [('', ''), *contracts])} |"
-    return f"| `{name}` | {cell(name, traces)} | {cell(name, contracts)} |"
+def trace_of(name, groups):
+    """The sentence over a type's trace, without the type's name; none if its file has no trace."""
+    said = [sentence for group, sentence in groups if group[0] == f"{name}Trace"]
+    return said[0].removeprefix(f"`{name}`: ") if said else None
 
 
 def fields(crates, record):
@@ -88,25 +43,27 @@ def fields(crates, record):
 
 
 def two_ends(crates):
-    """A line for each type that has two ends: what it lists from both."""
+    """The types that have two ends."""
     texts = [path.read_text(encoding="utf-8") for path in code_of_library(crates)]
-    lists = {name: said for text in texts for said, name in LISTED.findall(text)}
     found = sorted({name for text in texts for name in TWO_ENDS.findall(text)})
-    return ["| Type | From both ends it lists |\n|---|---|", *(f"| `{name}` | {lists.get(name, '–')} |" for name in found)] if found else [""]
+    return [", ".join(f"`{name}`" for name in found) + "." if found else ""]
 
 
 def tables(crates):
-    """The lines of each table, by its name."""
+    """The lines of each table and list, by its name."""
     types = {name for path in code_of_library(crates) for name in STRUCT.findall(path.read_text(encoding="utf-8"))}
-    made = {name: [HEAD.format("File of `specs/`" if name == NAMES[-1] else "Type")] for name in NAMES}
+    listed, traces = {name: [] for name in NAMES}, set()
     for crate, place, path in index.files(crates):
-        table = table_of(crate, place, types)
-        found = line(place.rsplit("/", 1)[-1], list(index.words(path)), table == NAMES[-1])
-        trace = found.split(" | ")[1] if found else "–"
-        if trace != "–" and any(row.split(" | ")[1] == trace for row in made[table]):
-            raise ValueError(f"{place.rsplit('/', 1)[-1]}: its trace has the sentence of another's: {trace}")
-        # of nests of adapters the traces are joined, and define none
-        if found and place != "Nests":
-            made[table].append(found)
+        name, groups = place.rsplit("/", 1)[-1], list(index.words(path))
+        if name not in types or name in INNER or not any(group[0].endswith(("Trace", "_contract")) for group, _ in groups):
+            continue
+        trace = trace_of(name, groups)
+        if trace and FRAGMENT.match(trace):
+            raise ValueError(f"{name}: the sentence {trace!r} of its definition can't be read by itself")
+        if trace and trace in traces:
+            raise ValueError(f"{name}: its trace has the sentence of another's: {trace}")
+        traces.add(trace)
+        listed[list_of(crate, place)].append(f"[`{name}`](INDEX.md#{place.replace('/', '').lower()})")
+    made = {name: [", ".join(links) + "." if links else ""] for name, links in listed.items()}
     made |= {name: fields(crates, record) for name, record in RECORDS.items()}
     return {**made, "types with two ends": two_ends(crates)}

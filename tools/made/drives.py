@@ -70,13 +70,9 @@ class Way:
                 self.add("its own `next`" if receiver == "self" else DRAWS[name], side or field, looped)
             elif name in STD and through:
                 self.add(STD[name], "")
-            elif receiver == "self" and name == "next_of_both":
-                # `next`, with a flag: of a `next` its draws count, of a fold it is one.
-                own = [f for f in code.functions(self.path) if f.name == name and f.owner.endswith(function.owner.split(" for ")[-1])]
-                if function.name == "drive":
-                    self.add("its own `next`", "")
-                elif own:
-                    self.walk(own[0], through, side, (*seen, name))
+            elif receiver and name == "next_of_both":
+                # `next`, with a flag
+                self.add("its own `next`", "")
             elif receiver != "self" and name not in seen:
                 helper = helper_of(name, self.path, self.found)
                 lent = [part for part in (field, *LENT.findall(given_at(function, called.end() - 1))) if part in SIDES]
@@ -105,9 +101,9 @@ def columns(crates):
             if kind is None or not function.body or function.name not in (*HIDDEN, "next", "next_back"):
                 continue
             way = Way(path, found)
-            way.walk(function)
-            of_std = "std::iter::" in function.owner.split(" for ")[0] and function.name in DRAWS
-            rows.setdefault(kind, {})[function.name] = f"std's `{function.name}`" if of_std else way.cell()
+            if function.name in HIDDEN:
+                way.walk(function)
+            rows.setdefault(kind, {})[function.name] = way.cell()
     return rows
 
 
@@ -115,14 +111,11 @@ def types(crates):
     """The table of the types. Those with the same row share it."""
     shared = {}
     for kind, cells in columns(crates).items():
-        written = [(name, cells[name]) for name in HIDDEN[2:] if name in cells]
-        others = [text if f"`{name}`" in text else f"`{name}`: {text}" for name, text in written]
-        drawn = cells.get("next", "") + (f"; `next_back`: {cells['next_back']}" if "next_back" in cells else "")
         back = cells.get("drive_back", "–" if "next_back" in cells else "")
-        row = (cells.get("drive", "–"), back, "; ".join(others) or "–", drawn)
+        row = (cells.get("drive", "–"), back, cells.get("drive_to", "–"))
         shared.setdefault(row, []).append(kind)
     rows = [f"| {', '.join(f'`{kind}`' for kind in kinds)} | {' | '.join(row)} |" for row, kinds in shared.items()]
-    return ["| Type | `drive` | `drive_back` | Others | `next` |\n|---|---|---|---|---|", *rows]
+    return ["| Type | `drive` | `drive_back` | `drive_to` |\n|---|---|---|---|", *rows]
 
 
 def goes_through(name, functions, found, seen=()):
@@ -146,7 +139,7 @@ def goes_through(name, functions, found, seen=()):
 
 
 def finals(crates):
-    """The table of the traits' calls by the hidden call that each goes through."""
+    """The table of the traits' calls by the hidden call that each goes through. Most go through `drive`, and aren't named."""
     files = code_of_library(crates)
     found, functions, rows = helpers(files), {}, {}
     for path in files:
@@ -158,4 +151,5 @@ def finals(crates):
         if through:
             rows.setdefault(", ".join(through), []).append(f"`{name}`")
     order = sorted(rows, key=lambda through: [*(f"`{name}`" for name in HIDDEN), through].index(through))
-    return ["| Goes through | Calls |\n|---|---|", *(f"| {through} | {', '.join(rows[through])} |" for through in order)]
+    named = {through: "all others" if through == "`drive`" else ", ".join(rows[through]) for through in order}
+    return ["| Goes through | Calls |\n|---|---|", *(f"| {through} | {calls} |" for through, calls in named.items())]

@@ -1,4 +1,6 @@
-"""docs/LAWS.md: each law, with the first paragraph of its comment. Laws whose sentences differ in the type alone share one."""
+"""docs/LAWS.md: each law, with the first sentence of its comment.
+
+Laws whose sentences differ in the type alone share one. Of the other laws of a type's hint the names stand together."""
 
 import re
 
@@ -12,7 +14,7 @@ PLACES = (
 )
 HEAD = """# Laws
 
-Each law, with what it says. A law is a function that is called for its contract alone. The first two are the headline, of every source and nest: its definition is the `traces` of its contract. `tools/pages` writes this page, and the gate compares it.
+Each law, with the first sentence of its `///`, which says the rest. A law is a function that is called for its contract alone. The first two are the headline. `tools/pages` writes this page, and the gate compares it.
 """
 SHARED = """
 ## Of one type each
@@ -20,6 +22,8 @@ SHARED = """
 *T* is the type that the law is named for.
 """
 TYPE = re.compile(r"`[A-Z]\w*`")
+# Up to the first full stop that ends no piece of code.
+SENTENCE = re.compile(r"(?:`[^`]*`|[^`])*?\.(?= |$)")
 
 
 def laws(crates):
@@ -30,6 +34,12 @@ def laws(crates):
             for function in code.functions(path):
                 if function.name.startswith("law_"):
                     yield crate, path.relative_to(top).with_suffix(""), function.name, function.comment
+
+
+def first_sentence(comment):
+    """The first sentence of a comment."""
+    found = SENTENCE.match(comment)
+    return found.group() if found else comment
 
 
 def of_type(name, comment):
@@ -46,17 +56,18 @@ def tails(name):
 
 def page(crates):
     """The text of the page."""
-    found = list(laws(crates))
+    found = [(crate, name, first_sentence(comment)) for crate, _, name, comment in laws(crates)]
     alike = {}
-    for _, _, name, comment in found:
+    for _, name, comment in found:
         said = of_type(name, comment)
         if said != comment:
             alike.setdefault(said, []).append(name)
     alike = {said: names for said, names in alike.items() if len(names) > 1}
     shared = {name for names in alike.values() for name in names}
+    own = [name for _, name, comment in found if name not in shared and name.startswith("law_hints_") and of_type(name, comment) != comment]
     lines, last = [HEAD.rstrip("\n")], None
-    for crate, _, name, comment in found:
-        if name in shared:
+    for crate, name, comment in found:
+        if name in shared or name in own:
             continue
         if crate != last:
             last = crate
@@ -65,6 +76,8 @@ def page(crates):
     if alike:
         lines.append(SHARED)
         lines += [f"- {', '.join(f'`{name}`' for name in names)}: {said}" for said, names in alike.items()]
+    if own:
+        lines.append(f"- {', '.join(f'`{name}`' for name in own)}: when each hint of *T* is sound.")
     return "\n".join(lines) + "\n"
 
 

@@ -1,7 +1,6 @@
 """The tables of docs/ADDING.md: the goals of the adapters that it names to copy, and the lemmas that their terms cite.
 
-Left out are the goals that a lemma of the type's own closes alone: the method's clause `lists`, by its lemma `lists_..`, and
-the law of its hint, by `hints_..`."""
+Left out are the goals that lemmas of the type's own close, those of a file that is named for it."""
 
 import re
 
@@ -10,25 +9,28 @@ from made.tree import LIBRARY
 
 SIBLINGS = {
     "terms of what passes": ["copied", "unique", "tuples", "inspect_err", "or_else"],
-    "terms of stages": ["intersperse_with", "take_while_inclusive", "intersperse"],
-    "terms of what buffers": ["dedup", "dedup_by_key", "coalesce", "chunk_by"],
+    "terms of stages": ["dedup", "dedup_by_key", "coalesce", "chunk_by", "intersperse_with", "take_while_inclusive", "intersperse"],
     "terms of consumers and searches": ["checked_sum", "fold_while", "try_find"],
 }
 CALLS = ("next", "drive", "on_item")
 HEAD = "| Goal | Lemmas | In |\n|---|---|---|"
-LEMMAS = re.compile(r"use Rattle\.(?!std\b)\w+\.(?:proofs\.Lemmas|specs\.Laws)\.[\w.]+\.\{([^}]*)\}")
-# The goal and the call that a lemma of the type's own closes, by how that begins.
-OWN = {("returns-clause-lists", "the method"): "lists_", ("returns", "the law of the hint"): "hints_"}
+LEMMAS = re.compile(r"use Rattle\.(?!std\b)\w+\.(?:proofs\.Lemmas|specs\.Laws)\.(?:\w+\.)*(\w+)\.\{([^}]*)\}")
 GOAL = re.compile(r"(?:abbrev )?pub ([\w-]+) : goal\.\1")
 
 
 def goals(path):
-    """Each goal of a file of terms, with the lemmas that its term cites, in the order of their imports."""
+    """Each goal of a file of terms, with the lemmas that its term cites and their files, in the order of their imports."""
     text = "\n".join(lines_of(path))
-    lemmas = [name.strip() for names in LEMMAS.findall(text) for name in names.split(",")]
+    lemmas = [(name.strip(), file) for file, names in LEMMAS.findall(text) for name in names.split(",")]
     parts = GOAL.split(text)[1:]
     for goal, term in zip(parts[::2], parts[1::2]):
-        yield goal, [name for name in lemmas if re.search(rf"(?<![\w-]){name}(?![\w-])", term)]
+        yield goal, [(name, file) for name, file in lemmas if re.search(rf"(?<![\w-]){name}(?![\w-])", term)]
+
+
+def own(file, name):
+    """Whether a file is named for a type, as `Intersperse` for `intersperse_with`."""
+    words = "".join(word.capitalize() for word in name.split("_"))
+    return words.startswith(file) or file.startswith(words)
 
 
 def files(crates, name):
@@ -48,9 +50,8 @@ def table(crates, names):
     for name in names:
         for call, path in files(crates, name):
             for goal, lemmas in goals(path):
-                own = OWN.get((goal, call), " ")
-                if lemmas and not (len(lemmas) == 1 and lemmas[0].startswith(own)):
-                    rows.setdefault((f"`{goal}` of {call}", tuple(sorted(lemmas))), []).append(name)
+                if not all(own(file, name) for _, file in lemmas):
+                    rows.setdefault((f"`{goal}` of {call}", tuple(sorted(lemma for lemma, _ in lemmas))), []).append(name)
     return [HEAD, *(f"| {goal} | {listed(lemmas)} | {listed(dict.fromkeys(found))} |" for (goal, lemmas), found in rows.items())]
 
 

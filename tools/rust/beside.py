@@ -109,7 +109,7 @@ def piece(name):
 ADAPTERS, INLINE = "fallible_itertools_adapters", "#[inline(always)]\n    "
 RULES = [
     # Folds that are inlined whole, so that one of an adapter that buffers is a single loop.
-    (ADAPTERS + r"/staging\.rs", r"^(?:pub )?fn (?:drive_stage|at_stop)\b", r"#[inline(always)]\n\g<0>", 2),
+    (ADAPTERS + r"/staging\.rs", r"^(?:pub )?fn (?:drive_stage|tell_stop)\b", r"#[inline(always)]\n\g<0>", 2),
     # The body of `peeking_take_while` goes by `peek`.
     (ADAPTERS + r"/peeking_take_while\.rs", r"^// What the closure returns on the buffered item(?:.*\n)*?\}\n\n", "", 1),
     (ADAPTERS + r"/peeking_take_while\.rs", r"\Z", piece("peeked_end"), 1),

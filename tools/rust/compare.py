@@ -105,17 +105,28 @@ def compare(files, sources, bodies):
 USED = set()
 
 
+def listed(rows, of=""):
+    """Lines of bodies by how they differ, each with why; `of` stands behind the names."""
+    lines = {}
+    for (how, why), names in sorted(rows.items()):
+        lines.setdefault(how, []).append("- %s: %s" % (", ".join("`%s`" % x.split(" for ")[-1] for x in names) + of, why))
+    return lines
+
+
+def parts(lines):
+    """The lists of bodies, each below how they differ."""
+    return ["*%s*:\n\n%s" % (how.capitalize(), "\n".join(found)) for how, found in lines.items()]
+
+
 def table(same, rows):
-    """The tables of what is not word for word the proved body, by crate. Each row of REASONS is used."""
+    """The lists of what is not word for word the proved body, by crate. Each row of REASONS is used."""
     for row in REASONS:
         if row not in USED:
             raise Refused("compare: no body is of the row %r" % (row,))
-    lines = []
+    said = []
     for crate, (alike, counting) in same.items():
-        cells = ["| %s | %s | %s |" % (", ".join("`%s`" % x.split(" for ")[-1] for x in names), *reason)
-                 for reason, names in sorted(rows[crate].items())]
         unlike = sum(map(len, rows[crate].values()))
-        lines += ["In `%s` %d bodies are word for word the proved ones, %d of them but for a number that counts down. %d are not:"
-                  % (crate, alike, counting, unlike),
-                  "", "| Body | How | Why |", "|---|---|---|", *cells, ""]
-    return "\n".join(lines[:-1])
+        said.append("In `%s` %d bodies are word for word the proved ones, %d of them but for a number that counts down. %d are not."
+                     % (crate, alike, counting, unlike))
+        said += parts(listed(rows[crate]))
+    return "\n\n".join(said)

@@ -18,7 +18,7 @@ TYPED = r"\b(\w+)\s*:\s*Number\s*,\s*"
 TYPED_LAST = r",\s*(\w+)\s*:\s*Number(?=\s*\))"
 # A field of a type, with the comment above it, and its counting down.
 FIELD = r"(?:\n *//[^\n]*)*\n *(?:pub(?:\(crate\))? )?\w+: Number,(?=\n)"
-IMPORTED = r"^use fallible_iterator::\{[^}\n]*(, Number)\};"
+IMPORTED = r"^use fallible_iterator::\{[^}\n]*(, Number)(?=[,}])[^}\n]*\};"
 OWN_LESS = r"\bself\s*\.\s*(\w+)\s*=\s*self\s*\.\s*\1\s*\.\s*one_less\s*\(\s*\)\s*;\s*"
 # What is cut of each name, in turn.
 CUT = [

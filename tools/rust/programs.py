@@ -224,9 +224,12 @@ def every_file(top, docs, words):
 
 
 def table(same):
-    """How many bodies of each crate are the proved ones, and the table of the others."""
+    """How many bodies of each crate are the proved ones, and the lists of the others."""
     alike = ", ".join("%d of `%s`" % (count, crate) for crate, ((count, _), _) in same.items())
-    rows = ["| %s | %s | %s | %s |" % (", ".join("`%s`" % x.split(" for ")[-1] for x in dict.fromkeys(names)), crate, *reason)
-            for crate, (_, others) in same.items() for reason, names in sorted(others.items())]
-    return "\n".join(["Of the crates of programs these bodies are word for word the proved ones, but for allocators and the names of calls that may be "
-                      "refused memory: %s. These are not:" % alike, "", "| Body | Crate | How | Why |", "|---|---|---|---|", *rows])
+    others = {}
+    for crate, (_, rows) in same.items():
+        once = {reason: list(dict.fromkeys(names)) for reason, names in rows.items()}
+        for how, lines in compare.listed(once, " of `%s`" % crate).items():
+            others.setdefault(how, []).extend(lines)
+    return "\n\n".join(["Of the crates of programs these bodies are word for word the proved ones, but for allocators and the names of calls that may be "
+                        "refused memory: %s. These are not." % alike, *compare.parts(others)])

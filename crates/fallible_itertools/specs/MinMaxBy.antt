@@ -1,5 +1,5 @@
 -- The least and the greatest item by a closure, in one pass.
-use Rattle.std.specs.Prelude.{◌≡◌, false, cond, List, Some, None, Result, Ok, Err, ⊤}
+use Rattle.std.specs.Prelude.{◌≡◌, false, cond, List, Result, Ok, Err, ⊤}
 use Rattle.std.specs.Ordering.{is_gt}
 use Rattle.fallible_iterator.specs.Traces.{Answered}
 use Rattle.fallible_iterator.specs.Folds.{FoldDrains, IsFoldTurn, TurnThrough}

@@ -139,6 +139,8 @@ use std::fmt::Display;
 use std::hash::Hash;
 
 /// More calls on every fallible iterator.
+///
+/// Proof: no clause says what a call that consumes the iterator leaves.
 pub trait FallibleItertools: FallibleIterator {
     // ---- adapters that buffer
 
@@ -736,8 +738,6 @@ pub trait FallibleItertools: FallibleIterator {
     ///
     /// Requires: `next` may be called, and the predicate may be called on each item that may come until it decides.
     ///
-    /// Proof: no clause says what is left.
-    ///
     /// ```
     /// let readings = [Ok::<u32, u8>(7), Ok(150), Ok(8)];
     /// let it = convert(readings.into_iter());
@@ -812,8 +812,6 @@ pub trait FallibleItertools: FallibleIterator {
     ///
     /// Requires: `next` may be called.
     ///
-    /// Proof: no clause says what is left.
-    ///
     /// ```
     /// let readings = [Ok::<u8, u8>(150), Ok(7)];
     /// assert_eq!(rt; convert(readings.into_iter()).checked_sum(), Ok(Some(157)));
@@ -870,8 +868,6 @@ pub trait FallibleItertools: FallibleIterator {
     /// Precondition: the iterator is finite.
     ///
     /// Requires: `next` may be called.
-    ///
-    /// Proof: no clause says what is left.
     ///
     /// ```
     /// let prices = [Ok::<f64, u8>(1.5), Ok(0.25), Ok(2.0)];
@@ -967,8 +963,6 @@ pub trait FallibleItertools: FallibleIterator {
     ///
     /// Requires: `next` may be called, and the closure may be called on each item that may come.
     ///
-    /// Proof: no clause says what is left.
-    ///
     /// ```
     /// let readings = [Ok::<u32, u8>(150), Ok(7), Ok(8)];
     /// let it = convert(readings.into_iter());
@@ -1004,8 +998,6 @@ pub trait FallibleItertools: FallibleIterator {
     ///
     /// Requires: `next` may be called, and the closure may be called on each two items that may come one after the other, as long as it returns true.
     ///
-    /// Proof: no clause says what is left.
-    ///
     /// ```
     /// let readings = [Ok::<u32, u8>(150), Ok(7), Ok(8)];
     /// let it = convert(readings.into_iter());
@@ -1036,8 +1028,6 @@ pub trait FallibleItertools: FallibleIterator {
     /// Precondition: the iterator is finite.
     ///
     /// Requires: `next` may be called.
-    ///
-    /// Proof: no clause says what is left.
     ///
     /// ```
     /// let readings = [Ok::<u32, u8>(7), Ok(7), Ok(150)];
@@ -1708,8 +1698,6 @@ pub trait FallibleItertools: FallibleIterator {
     ///
     /// Requires: `next` may be called.
     ///
-    /// Proof: no clause says what is left.
-    ///
     /// ```
     /// let readings = [Ok::<u32, u8>(150), Ok(7), Ok(700)];
     /// assert_eq!(rt;
@@ -1754,8 +1742,6 @@ pub trait FallibleItertools: FallibleIterator {
     ///
     /// Requires: `next` may be called, and the closure may be called on what is kept so far and each item that may come.
     ///
-    /// Proof: no clause says what is left.
-    ///
     /// ```
     /// let pairs = [Ok::<(u32, char), u8>((3, 'a')), Ok((1, 'b')), Ok((3, 'c')), Ok((1, 'd'))];
     /// let ends = convert(pairs.into_iter()).minmax_by(|x, y| Ok(x.0.cmp(&y.0)));
@@ -1789,8 +1775,6 @@ pub trait FallibleItertools: FallibleIterator {
     /// Precondition: the iterator is finite.
     ///
     /// Requires: `next` may be called, and the closure may be called on each item that may come.
-    ///
-    /// Proof: no clause says what is left.
     ///
     /// ```
     /// let words = [Ok::<&str, u8>("to"), Ok("the"), Ok("sea"), Ok("at")];
@@ -1827,8 +1811,6 @@ pub trait FallibleItertools: FallibleIterator {
     ///
     /// Memory: that failure is a `Fault::Source`. It also stops at an item that the map rejects: no item before equals it, and an allocation failed. Then it fails with `Fault::Memory`.
     ///
-    /// Proof: no clause says what is left.
-    ///
     /// ```
     /// let readings = [Ok::<u32, u8>(7), Ok(150), Ok(7)];
     /// let counts = convert(readings.into_iter()).counts(rt.alloc())?;
@@ -1864,8 +1846,6 @@ pub trait FallibleItertools: FallibleIterator {
     /// Requires: `next` may be called, and of the closure what `map` requires.
     ///
     /// Memory: that failure is a `Fault::Source` too. All else as `counts`.
-    ///
-    /// Proof: no clause says what is left.
     ///
     /// ```
     /// let readings = [Ok::<u32, u8>(150), Ok(7), Ok(157)];
@@ -1905,8 +1885,6 @@ pub trait FallibleItertools: FallibleIterator {
     /// Requires: `next` may be called.
     ///
     /// Memory: that failure is a `Fault::Source`. It also stops at a pair that the map rejects, since an allocation failed, for a new key or for the full `Vec` of an equal one. Then it fails with `Fault::Memory`.
-    ///
-    /// Proof: no clause says what is left.
     ///
     /// ```
     /// let pairs = [Ok::<(char, u32), u8>(('a', 1)), Ok(('b', 2)), Ok(('a', 3))];
@@ -1989,8 +1967,6 @@ pub trait FallibleItertools: FallibleIterator {
     ///
     /// Memory: that failure is a `Fault::Source` too. All else as `into_group_map`.
     ///
-    /// Proof: no clause says what is left.
-    ///
     /// ```
     /// let readings = [Ok::<u32, u8>(150), Ok(7), Ok(157)];
     /// let groups = convert(readings.into_iter()).into_group_map_by(rt.alloc(), |reading: &u32| Ok(
@@ -2030,8 +2006,6 @@ pub trait FallibleItertools: FallibleIterator {
     /// Requires: `next` may be called, the first closure may be called on each item that may come, in each state that such calls bring it to, and the second on the value so far of its key and each item that may come.
     ///
     /// Memory: that failure is a `Fault::Source`. It also stops at an item that the map rejects: no item before has an equal key, and an allocation failed. Then it fails with `Fault::Memory`.
-    ///
-    /// Proof: no clause says what is left.
     ///
     /// ```
     /// let readings = [Ok::<u32, u8>(150), Ok(7), Ok(157)];
@@ -2097,8 +2071,6 @@ pub trait FallibleItertools: FallibleIterator {
     ///
     /// Memory: that failure is a `Fault::Source` too.
     ///
-    /// Proof: no clause says what is left.
-    ///
     /// ```
     /// let readings = [Ok::<u32, u8>(150), Ok(7), Ok(700)];
     /// let (low, above): (Vec<u32>, Vec<u32>) = convert(readings.into_iter()).partition_map(
@@ -2149,8 +2121,6 @@ pub trait FallibleItertools: FallibleIterator {
     ///
     /// Memory: it stops at an item or a failure that its collection rejects, and fails with the `AllocError`.
     ///
-    /// Proof: no clause says what is left.
-    ///
     /// ```
     /// let readings = [Ok::<u32, u8>(150), Err(9), Ok(7), Err(8)];
     /// let (items, failures): (Vec<u32>, Vec<u8>) = convert(readings.into_iter()).partition_failures(
@@ -2187,8 +2157,6 @@ pub trait FallibleItertools: FallibleIterator {
     ///
     /// Memory: that failure is a `Fault::Source`. It also stops at an item that the collection rejects. It fails with `Fault::Memory` if an allocation failed, for the last item drawn or for sorting more than 20 items.
     ///
-    /// Proof: no clause says what is left.
-    ///
     /// ```
     /// let readings = [Ok::<u32, u8>(150), Ok(7), Ok(700)];
     /// let sorted = convert(readings.into_iter()).sorted(rt.alloc())?;
@@ -2217,7 +2185,7 @@ pub trait FallibleItertools: FallibleIterator {
     ///
     /// Requires: `next` may be called, and the closure may be called on references to any two items at any time.
     ///
-    /// Proof: no clause says what is left. It is known to be in order by a strict weak order as which the closure compares.
+    /// Proof: the `Vec` is known to be in order by a strict weak order as which the closure compares.
     ///
     /// ```
     /// let readings = [Ok::<u32, u8>(150), Ok(7), Ok(700)];
@@ -2259,8 +2227,6 @@ pub trait FallibleItertools: FallibleIterator {
     /// Precondition: the iterator is finite.
     ///
     /// Requires: `next` may be called, and the closure may be called on a reference to any item at any time.
-    ///
-    /// Proof: no clause says what is left.
     ///
     /// ```
     /// let words = [Ok::<&str, u8>("the"), Ok("sea"), Ok("is")];
@@ -2305,8 +2271,6 @@ pub trait FallibleItertools: FallibleIterator {
     ///
     /// Memory: that failure is a `Fault::Source`. It also stops at an item that the collection rejects, and fails with `Fault::Memory`. Sorting never fails.
     ///
-    /// Proof: no clause says what is left.
-    ///
     /// ```
     /// let readings = [Ok::<u32, u8>(150), Ok(7), Ok(700)];
     /// let sorted = convert(readings.into_iter()).sorted_unstable(rt.alloc())?;
@@ -2335,7 +2299,7 @@ pub trait FallibleItertools: FallibleIterator {
     ///
     /// Requires: `next` may be called, and the closure may be called on references to any two items at any time.
     ///
-    /// Proof: no clause says what is left. It is known to be in order by a strict weak order as which the closure compares.
+    /// Proof: the `Vec` is known to be in order by a strict weak order as which the closure compares.
     ///
     /// ```
     /// let readings = [Ok::<u32, u8>(150), Ok(7), Ok(700)];
@@ -2381,8 +2345,6 @@ pub trait FallibleItertools: FallibleIterator {
     /// Precondition: the iterator is finite.
     ///
     /// Requires: `next` may be called, and the closure may be called on a reference to any item at any time.
-    ///
-    /// Proof: no clause says what is left.
     ///
     /// ```
     /// let words = [Ok::<&str, u8>("the"), Ok("is"), Ok("calm")];
@@ -2432,7 +2394,7 @@ pub trait FallibleItertools: FallibleIterator {
     ///
     /// Memory: that failure is a `Fault::Source`. It also stops at an item that can't be appended, since an allocation failed or its `Display` did. Then it fails with `Fault::Memory`.
     ///
-    /// Proof: no clause says what is left. The text is known of items whose type says how they are shown.
+    /// Proof: the text is known of items whose type says how they are shown.
     ///
     /// ```
     /// let readings = [Ok::<u32, u8>(150), Ok(7), Ok(700)];
@@ -2470,8 +2432,6 @@ pub trait FallibleItertools: FallibleIterator {
     /// Requires: `next` may be called.
     ///
     /// Memory: that failure is a `Fault::Source`. It also stops at an item for which an allocation failed, before `k` items were kept. Then it fails with `Fault::Memory`. An allocation that fails later it does without, and moves each item to its place by itself.
-    ///
-    /// Proof: no clause says what is left.
     ///
     /// ```
     /// let readings = [Ok::<u32, u8>(150), Ok(7), Ok(700), Ok(50)];
@@ -2515,8 +2475,6 @@ pub trait FallibleItertools: FallibleIterator {
     ///
     /// Memory: that failure is a `Fault::Source`. It also stops at an item for which an allocation failed, before `n` items were kept. Then it fails with `Fault::Memory`.
     ///
-    /// Proof: no clause says what is left.
-    ///
     /// ```
     /// let readings = [Ok::<u32, u8>(150), Ok(7), Ok(700)];
     /// let last = convert(readings.into_iter()).tail(rt.alloc(), 2)?;
@@ -2553,8 +2511,6 @@ pub trait FallibleItertools: FallibleIterator {
     /// Precondition: one of the two is finite.
     ///
     /// Requires: `next` may be called on both sides, and the closure may be called on each two items that may come in one round.
-    ///
-    /// Proof: no clause says what is left.
     ///
     /// ```
     /// let left = convert([Ok::<u32, u8>(11), Ok(12)].into_iter());
@@ -2847,7 +2803,7 @@ pub trait FallibleItertools: FallibleIterator {
         ensures lists { (l : List (Result Self.Item Self.Error))
             → list.Lists Self.contract.steps self l
             → ClonesAreEqual Self.Item.eq Self.Item.is_clone
-            → ListsUnlessRefused ⊥ (seen_as unique_parts
+            → ListsUntilRefused (λ x y. y ≡ x) (seen_as unique_parts
             (unique_contract Self.Item.eq Self.Item.is_clone Self.Item.is_infallible
             Self.Error.from_gives Self.contract)).steps Self.Error.from_gives result
             (unique_of Self.Item.eq l) }
@@ -2884,7 +2840,7 @@ pub trait FallibleItertools: FallibleIterator {
         ensures empty { IsEmpty (unique_by.unique_by_keys result) }
         ensures closure { unique_by.unique_by_closure result ≡ f }
         ensures lists { OverListWith (list.Acts (call_by_reference F.FnMut) f) Self.contract.steps
-            self (λ h l. ListsUnlessRefused ⊥ (seen_as unique_by.unique_by_parts
+            self (λ h l. ListsUntilRefused (λ x y. y ≡ x) (seen_as unique_by.unique_by_parts
             (unique_by.unique_by_contract K.eq Self.Error.from_gives Self.contract F.FnMut)).steps
             Self.Error.from_gives result (unique_by.unique_by_key K.eq h l)) }
     {
@@ -2913,7 +2869,7 @@ pub trait FallibleItertools: FallibleIterator {
         ensures empty { hash.IsEmpty (duplicates_came result) }
         ensures lists { (l : List (Result Self.Item Self.Error))
             → list.Lists Self.contract.steps self l
-            → ListsUnlessRefused ⊤ (seen_as duplicates_parts
+            → ListsUnlessRefused (seen_as duplicates_parts
             (duplicates_contract Self.Item.eq Self.Error.from_gives Self.contract)).steps
             Self.Error.from_gives result (duplicates_of Self.Item.eq l) }
     {

@@ -24,7 +24,6 @@ pub mod InspectErr
 pub mod Intersperse
 pub mod Lengths
 pub mod LoopsMade
-pub mod MayCome
 pub mod OrElse
 pub mod PeekingTakeWhile
 pub mod Plan

@@ -5,12 +5,12 @@ use Rattle.fallible_iterator.specs.Contract.{Contract}
 use Rattle.fallible_iterator.specs.Hints.{fitting_sum}
 use Rattle.fallible_iterator.specs.SoundHints.{HintsAsSoundAs, SoundHints}
 use Rattle.fallible_itertools_adapters.specs.Plan.{HintPlan, calls, makes}
-use Rattle.fallible_itertools_adapters.specs.Staging.{Made, made_before, one_made, stop_answer}
+use Rattle.fallible_itertools_adapters.specs.Staging.{Emitted, emitted_then, one_emitted, stop_answer}
 
--- what a stop makes: the item that is held, after which the stop is due; or the stop, where none is held
-abbrev pub before_stop : {B E : Type 0} → Option B → Option E → Made B (Option E) E
-before_stop (Some y) stop = made_before (item y) stop
-before_stop None stop = one_made (stop_answer stop)
+-- what is emitted at a stop: the item that is held, after which the stop is due; or the stop, where none is held
+abbrev pub before_stop : {B E : Type 0} → Option B → Option E → Emitted B (Option E) E
+before_stop (Some y) stop = emitted_then (item y) stop
+before_stop None stop = one_emitted (stop_answer stop)
 
 -- an answer that is held, or none
 abbrev pub held_one : {A : Type 0} → Option A → ℕ

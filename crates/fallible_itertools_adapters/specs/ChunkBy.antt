@@ -7,9 +7,9 @@ use Rattle.fallible_iterator.specs.Traces.{Answered, item}
 use Rattle.fallible_iterator.specs.Contract.{Contract, Inverse}
 use Rattle.fallible_itertools_adapters.specs.Batch.{Put, Puts, put_last}
 use Rattle.fallible_itertools_adapters.specs.BeforeStop.{before_stop, held_hints, held_one}
-use Rattle.fallible_itertools_adapters.specs.Plan.{Making, Plan, bounded, calls, closure_contract, plan_meets}
+use Rattle.fallible_itertools_adapters.specs.Plan.{Transition, Plan, bounded, calls, closure_contract, plan_meets}
 use Rattle.fallible_itertools_adapters.specs.Staged.{as_function, plan_does, staged}
-use Rattle.fallible_itertools_adapters.specs.Staging.{StagedTrace, one_made, stop_comes}
+use Rattle.fallible_itertools_adapters.specs.Staging.{StagedTrace, one_emitted, stop_comes}
 use Rattle.std.specs.declared.vec.Vec.{Vec}
 use Rattle.std.specs.declared.alloc.Global.{Global}
 use Rattle.std.specs.declared.alloc.AllocError.{AllocError}
@@ -36,23 +36,23 @@ module _ {K V : Type 0} where
 
 module _ {K V E : Type 0} where
   -- where the key is that of the group that is held, the group goes on; where it is another, that group is yielded, and another begins
-  abbrev pub group_at : K × V → K → V → Bool → Making (Option (K × V)) (K × V) (Option E) E
+  abbrev pub group_at : K × V → K → V → Bool → Transition (Option (K × V)) (K × V) (Option E) E
   group_at g k v true = (None, Some (g.0, v))
-  group_at g k v false = (one_made (item g), Some (k, v))
+  group_at g k v false = (one_emitted (item g), Some (k, v))
 
   -- What becomes of an item by its key. If its key failed, or an allocation, the item is lost, and that is a stop.
-  abbrev pub group_by : (K → K → Bool) → Option (K × V) → KeyedPut K V E → Making (Option (K × V)) (K × V) (Option E) E
+  abbrev pub group_by : (K → K → Bool) → Option (K × V) → KeyedPut K V E → Transition (Option (K × V)) (K × V) (Option E) E
   group_by eq None (Ok (k, Ok v)) = (None, Some (k, v))
   group_by eq (Some g) (Ok (k, Ok v)) = group_at g k v (eq g.0 k)
   group_by eq held (Ok (k, Err (kept, e))) = (before_stop (group_kept held kept) (Some e), None)
   group_by eq held (Err e) = (before_stop held (Some e), None)
 
   -- The key's closure is called on each item.
-  abbrev pub chunk_by_plan : {A : Type 0} → (K → K → Bool) → Option (K × V) → A → Plan (Option (K × V) × A) (KeyedPut K V E) (Making (Option (K × V)) (K × V) (Option E) E)
+  abbrev pub chunk_by_plan : {A : Type 0} → (K → K → Bool) → Option (K × V) → A → Plan (Option (K × V) × A) (KeyedPut K V E) (Transition (Option (K × V)) (K × V) (Option E) E)
   chunk_by_plan eq held x = calls (held, x) (group_by eq held)
 
   -- At a stop the group that is held comes first.
-  abbrev pub chunk_by_stops : Option (K × V) → Option E → Making (Option (K × V)) (K × V) (Option E) E
+  abbrev pub chunk_by_stops : Option (K × V) → Option E → Transition (Option (K × V)) (K × V) (Option E) E
   chunk_by_stops held stop = (before_stop held stop, None)
 
 -- ---- its contract and its trace

@@ -5,9 +5,9 @@ use Rattle.fallible_iterator.specs.Contract.{Contract, Inverse}
 use Rattle.fallible_iterator.specs.Hints.{fitting_sum}
 use Rattle.fallible_itertools_adapters.specs.Batch.{Put, Puts, kept_of, put_last}
 use Rattle.fallible_itertools_adapters.specs.BeforeStop.{before_stop, held_one, hint_unless_end}
-use Rattle.fallible_itertools_adapters.specs.Plan.{HintPlan, Making, Plan, calls, plan_contract, plan_meets}
+use Rattle.fallible_itertools_adapters.specs.Plan.{HintPlan, Transition, Plan, calls, plan_contract, plan_meets}
 use Rattle.fallible_itertools_adapters.specs.Staged.{as_function, plan_does, staged}
-use Rattle.fallible_itertools_adapters.specs.Staging.{StagedTrace, one_made, stop_comes}
+use Rattle.fallible_itertools_adapters.specs.Staging.{StagedTrace, one_emitted, stop_comes}
 use Rattle.std.specs.declared.vec.Vec.{Vec}
 use Rattle.std.specs.declared.alloc.Global.{Global}
 use Rattle.std.specs.declared.alloc.AllocError.{AllocError}
@@ -18,21 +18,21 @@ use Rattle.std.proofs.Common.{refl}
 
 module _ {V E : Type 0} where
   -- a batch with too few items is held, and a whole one is yielded
-  abbrev pub batch_at : ℕ → V → Bool → Making (ℕ × Option V) V (Option E) E
+  abbrev pub batch_at : ℕ → V → Bool → Transition (ℕ × Option V) V (Option E) E
   batch_at n v true = (None, (n, Some v))
-  batch_at n v false = (one_made (item v), (n, None))
+  batch_at n v false = (one_emitted (item v), (n, None))
 
   -- The batch with the item, by how many it has then. If an allocation failed the item is lost, and that is a stop.
-  abbrev pub batch_by : (V → ℕ) → ℕ × Option V → Put V E → Making (ℕ × Option V) V (Option E) E
+  abbrev pub batch_by : (V → ℕ) → ℕ × Option V → Put V E → Transition (ℕ × Option V) V (Option E) E
   batch_by count h (Ok v) = batch_at h.0 v (ltb (count v) h.0)
   batch_by count h (Err (kept, e)) = (before_stop (kept_of h.1 kept) (Some e), (h.0, None))
 
   -- Each item is put after those of the batch that is held.
-  abbrev pub chunks_plan : {A : Type 0} → (V → ℕ) → ℕ × Option V → A → Plan (Option V × A) (Put V E) (Making (ℕ × Option V) V (Option E) E)
+  abbrev pub chunks_plan : {A : Type 0} → (V → ℕ) → ℕ × Option V → A → Plan (Option V × A) (Put V E) (Transition (ℕ × Option V) V (Option E) E)
   chunks_plan count h x = calls (h.1, x) (batch_by count h)
 
   -- At a stop the batch that is held comes first.
-  abbrev pub chunks_stops : ℕ × Option V → Option E → Making (ℕ × Option V) V (Option E) E
+  abbrev pub chunks_stops : ℕ × Option V → Option E → Transition (ℕ × Option V) V (Option E) E
   chunks_stops h stop = (before_stop h.1 stop, (h.0, None))
 
 -- how many items a `Vec` has
@@ -103,10 +103,6 @@ BatchesOf n (b ∷ c ∷ bs) = (length b ≡ n) × BatchesOf n (c ∷ bs)
 -- the source
 abbrev pub chunks_source : {I A E : Type 0} → Chunks I A E → I
 chunks_source s = s.it
-
--- how many items a batch has
-abbrev pub chunks_size : {I A E : Type 0} → Chunks I A E → ℕ
-chunks_size s = s.stage.0.0.0
 
 -- the stop that is due, if one is
 abbrev pub chunks_due : {I A E : Type 0} → Chunks I A E → Option (Option E)

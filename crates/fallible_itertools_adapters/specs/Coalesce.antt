@@ -6,9 +6,9 @@ use Rattle.fallible_iterator.specs.Contract.{Contract, Inverse}
 use Rattle.fallible_iterator.specs.Folds.{call_with, takes_with}
 use Rattle.fallible_itertools_adapters.specs.BeforeStop.{held_hints, held_one}
 use Rattle.fallible_itertools_adapters.specs.Dedup.{dedup_stops}
-use Rattle.fallible_itertools_adapters.specs.Plan.{Making, Plan, bounded, calls, closure_contract, makes, plan_meets}
+use Rattle.fallible_itertools_adapters.specs.Plan.{Transition, Plan, bounded, calls, closure_contract, makes, plan_meets}
 use Rattle.fallible_itertools_adapters.specs.Staged.{as_function, plan_does, staged}
-use Rattle.fallible_itertools_adapters.specs.Staging.{StagedTrace, one_made, stop_comes}
+use Rattle.fallible_itertools_adapters.specs.Staging.{StagedTrace, one_emitted, stop_comes}
 use Rattle.fallible_itertools_adapters.specs.declared.coalesce.Coalesce.{Coalesce}
 use Rattle.std.proofs.Common.{refl}
 
@@ -17,13 +17,13 @@ abbrev pub OneOrBoth : Type 0 → Type 0 → Type 0
 OneOrBoth A E = Result (Result A (A × A)) E
 
 -- One item that it makes of both is held in their place; of two the first comes and the second is held; if it fails, both are lost.
-abbrev pub coalesced_by : {A E : Type 0} → OneOrBoth A E → Making (Option A) A (Option E) E
+abbrev pub coalesced_by : {A E : Type 0} → OneOrBoth A E → Transition (Option A) A (Option E) E
 coalesced_by (Ok (Ok z)) = (None, Some z)
-coalesced_by (Ok (Err both)) = (one_made (item both.0), Some both.1)
-coalesced_by (Err e) = (one_made (failure e), None)
+coalesced_by (Ok (Err both)) = (one_emitted (item both.0), Some both.1)
+coalesced_by (Err e) = (one_emitted (failure e), None)
 
 -- An item is held, and the closure is called on it and the next one.
-abbrev pub coalesce_plan : {A E : Type 0} → Option A → A → Plan (A × A) (OneOrBoth A E) (Making (Option A) A (Option E) E)
+abbrev pub coalesce_plan : {A E : Type 0} → Option A → A → Plan (A × A) (OneOrBoth A E) (Transition (Option A) A (Option E) E)
 coalesce_plan None x = makes (None, Some x)
 coalesce_plan (Some y) x = calls (y, x) coalesced_by
 
@@ -51,14 +51,6 @@ pub record KeepsApart {A E : Type 0} (h : A → A → OneOrBoth A E) : Type 0 wh
 -- the source
 abbrev pub coalesce_source : {I A E F : Type 0} → Coalesce I F A E → I
 coalesce_source s = s.it
-
--- the item that is held, if there is one
-abbrev pub coalesce_held : {I A E F : Type 0} → Coalesce I F A E → Option A
-coalesce_held s = s.stage.0.0
-
--- the closure
-abbrev pub coalesce_closure : {I A E F : Type 0} → Coalesce I F A E → F
-coalesce_closure s = s.stage.0.1
 
 -- the stop that is due, if one is
 abbrev pub coalesce_due : {I A E F : Type 0} → Coalesce I F A E → Option (Option E)

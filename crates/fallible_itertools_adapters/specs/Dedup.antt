@@ -3,24 +3,24 @@ use Rattle.std.specs.Prelude.{Bool, true, false, Option, Some, None, Result, Lis
 use Rattle.fallible_iterator.specs.Traces.{Answered, item}
 use Rattle.fallible_iterator.specs.Contract.{Contract, Inverse}
 use Rattle.fallible_itertools_adapters.specs.BeforeStop.{before_stop, held_hints, held_one}
-use Rattle.fallible_itertools_adapters.specs.Plan.{Making, Plan, bounded, calls_nothing, makes, plan_contract, plan_meets}
+use Rattle.fallible_itertools_adapters.specs.Plan.{Transition, Plan, bounded, calls_nothing, makes, plan_contract, plan_meets}
 use Rattle.fallible_itertools_adapters.specs.Staged.{as_function, plan_does, staged}
-use Rattle.fallible_itertools_adapters.specs.Staging.{StagedTrace, one_made, stop_comes}
+use Rattle.fallible_itertools_adapters.specs.Staging.{StagedTrace, one_emitted, stop_comes}
 use Rattle.fallible_itertools_adapters.specs.declared.dedup.Dedup.{Dedup}
 use Rattle.std.proofs.Common.{refl}
 
 -- The held item y stays if the next one, x, is the same; otherwise y comes, and x is held.
-abbrev pub unless_same : {A E : Type 0} → A → A → Bool → Making (Option A) A (Option E) E
+abbrev pub unless_same : {A E : Type 0} → A → A → Bool → Transition (Option A) A (Option E) E
 unless_same y x true = (None, Some y)
-unless_same y x false = (one_made (item y), Some x)
+unless_same y x false = (one_emitted (item y), Some x)
 
 -- At a stop the held item comes, and nothing is held then.
-abbrev pub dedup_stops : {A E : Type 0} → Option A → Option E → Making (Option A) A (Option E) E
+abbrev pub dedup_stops : {A E : Type 0} → Option A → Option E → Transition (Option A) A (Option E) E
 dedup_stops held stop = (before_stop held stop, None)
 
 module _ {A : Type 0} (eq : A → A → Bool) where
   -- The first of equal items is held until one that differs comes, or a stop.
-  abbrev pub dedup_plan : {E : Type 0} → Option A → A → Plan (Unit {0}) (Unit {0}) (Making (Option A) A (Option E) E)
+  abbrev pub dedup_plan : {E : Type 0} → Option A → A → Plan (Unit {0}) (Unit {0}) (Transition (Option A) A (Option E) E)
   dedup_plan None x = makes (None, Some x)
   dedup_plan (Some y) x = makes (unless_same y x (eq y x))
 

@@ -7,19 +7,19 @@ use Rattle.fallible_iterator.specs.Contract.{Contract, Inverse}
 use Rattle.fallible_iterator.specs.Picking.{call_at_two, takes_at_two}
 use Rattle.fallible_itertools_adapters.specs.BeforeStop.{held_hints, held_one}
 use Rattle.fallible_itertools_adapters.specs.Dedup.{dedup_stops, unless_same}
-use Rattle.fallible_itertools_adapters.specs.Plan.{Making, Plan, bounded, calls, closure_contract, makes, plan_meets}
+use Rattle.fallible_itertools_adapters.specs.Plan.{Transition, Plan, bounded, calls, closure_contract, makes, plan_meets}
 use Rattle.fallible_itertools_adapters.specs.Staged.{as_function, plan_does, staged}
 use Rattle.fallible_itertools_adapters.specs.Staging.{StagedTrace, stop_comes}
 use Rattle.fallible_itertools_adapters.specs.declared.dedup_by.DedupBy.{DedupBy}
 use Rattle.std.proofs.Common.{refl}
 
 -- By what the closure returns of the held item y and the next one, x: whether they are the same; where it fails, x is lost, and its failure is a stop.
-abbrev pub same_by : {A E : Type 0} → A → A → Result Bool E → Making (Option A) A (Option E) E
+abbrev pub same_by : {A E : Type 0} → A → A → Result Bool E → Transition (Option A) A (Option E) E
 same_by y x (Ok same) = unless_same y x same
 same_by y x (Err e) = dedup_stops (Some y) (Some e)
 
 -- The first of items that are the same is held. The closure is called on it and the next one.
-abbrev pub dedup_by_plan : {A E : Type 0} → Option A → A → Plan (A × A) (Result Bool E) (Making (Option A) A (Option E) E)
+abbrev pub dedup_by_plan : {A E : Type 0} → Option A → A → Plan (A × A) (Result Bool E) (Transition (Option A) A (Option E) E)
 dedup_by_plan None x = makes (None, Some x)
 dedup_by_plan (Some y) x = calls (y, x) (same_by y x)
 
@@ -42,10 +42,6 @@ module _ {A F E : Type 0} (g : Mut F (Bor A × (Bor A × Unit {0})) (Result Bool
 -- the source
 abbrev pub dedup_by_source : {I A E F : Type 0} → DedupBy I F A E → I
 dedup_by_source s = s.it
-
--- the item that is held, if there is one, and the closure
-abbrev pub dedup_by_comparing : {I A E F : Type 0} → DedupBy I F A E → Option A × F
-dedup_by_comparing s = s.stage.0
 
 -- the stop that is due, if one is
 abbrev pub dedup_by_due : {I A E F : Type 0} → DedupBy I F A E → Option (Option E)

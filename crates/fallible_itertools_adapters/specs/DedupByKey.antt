@@ -6,9 +6,9 @@ use Rattle.fallible_iterator.specs.Traces.{Answered, item}
 use Rattle.fallible_iterator.specs.Contract.{Contract, Inverse}
 use Rattle.fallible_iterator.specs.Closures.{call_by_reference, takes_by_reference}
 use Rattle.fallible_itertools_adapters.specs.BeforeStop.{before_stop, held_hints, held_one}
-use Rattle.fallible_itertools_adapters.specs.Plan.{Making, Plan, bounded, calls, closure_contract, plan_meets}
+use Rattle.fallible_itertools_adapters.specs.Plan.{Transition, Plan, bounded, calls, closure_contract, plan_meets}
 use Rattle.fallible_itertools_adapters.specs.Staged.{as_function, plan_does, staged}
-use Rattle.fallible_itertools_adapters.specs.Staging.{StagedTrace, one_made, stop_comes}
+use Rattle.fallible_itertools_adapters.specs.Staging.{StagedTrace, one_emitted, stop_comes}
 use Rattle.fallible_itertools_adapters.specs.declared.dedup_by_key.DedupByKey.{DedupByKey}
 use Rattle.std.proofs.Common.{refl}
 
@@ -18,23 +18,23 @@ keyed_item (Some held) = Some held.1
 keyed_item None = None
 
 -- At a stop the held item comes, and nothing is held then.
-abbrev pub dedup_key_stops : {A K E : Type 0} → Option (K × A) → Option E → Making (Option (K × A)) A (Option E) E
+abbrev pub dedup_key_stops : {A K E : Type 0} → Option (K × A) → Option E → Transition (Option (K × A)) A (Option E) E
 dedup_key_stops held stop = (before_stop (keyed_item held) stop, None)
 
 module _ {A K : Type 0} (eq : K → K → Bool) where
   -- The held item with its key stays if the next one has an equal key; otherwise it comes, and the next one is held.
-  abbrev pub unless_same_key : {E : Type 0} → K × A → K × A → Bool → Making (Option (K × A)) A (Option E) E
+  abbrev pub unless_same_key : {E : Type 0} → K × A → K × A → Bool → Transition (Option (K × A)) A (Option E) E
   unless_same_key held next true = (None, Some held)
-  unless_same_key held next false = (one_made (item held.1), Some next)
+  unless_same_key held next false = (one_emitted (item held.1), Some next)
 
   -- By the key of the next item, x; where the closure makes none, x is lost, and its failure is a stop.
-  abbrev pub keyed_by : {E : Type 0} → Option (K × A) → A → Result K E → Making (Option (K × A)) A (Option E) E
+  abbrev pub keyed_by : {E : Type 0} → Option (K × A) → A → Result K E → Transition (Option (K × A)) A (Option E) E
   keyed_by held x (Err e) = dedup_key_stops held (Some e)
   keyed_by None x (Ok k) = (None, Some (k, x))
   keyed_by (Some held) x (Ok k) = unless_same_key held (k, x) (eq held.0 k)
 
   -- The first of items with equal keys is held, with its key. The closure is called once on each item.
-  abbrev pub dedup_key_plan : {E : Type 0} → Option (K × A) → A → Plan A (Result K E) (Making (Option (K × A)) A (Option E) E)
+  abbrev pub dedup_key_plan : {E : Type 0} → Option (K × A) → A → Plan A (Result K E) (Transition (Option (K × A)) A (Option E) E)
   dedup_key_plan held x = calls x (keyed_by held x)
 
   module _ {F E : Type 0} (g : Mut F (Bor A × Unit {0}) (Result K E)) where
@@ -53,10 +53,6 @@ module _ {A K : Type 0} (eq : K → K → Bool) where
 -- the source
 abbrev pub dedup_by_key_source : {I A E K F : Type 0} → DedupByKey I K F A E → I
 dedup_by_key_source s = s.it
-
--- the key and the item that are held, if there are some, and the closure
-abbrev pub dedup_by_key_keying : {I A E K F : Type 0} → DedupByKey I K F A E → Option (K × A) × F
-dedup_by_key_keying s = s.stage.0
 
 -- the stop that is due, if one is
 abbrev pub dedup_by_key_due : {I A E K F : Type 0} → DedupByKey I K F A E → Option (Option E)

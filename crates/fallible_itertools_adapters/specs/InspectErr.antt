@@ -25,13 +25,9 @@ inspect_err_contract m g = failing_contract m (seen_call g) (takes_by_reference 
 abbrev pub inspect_err_source : {I F : Type 0} → InspectErr I F → I
 inspect_err_source s = s.it
 
--- the closure
-abbrev pub inspect_err_closure : {I F : Type 0} → InspectErr I F → F
-inspect_err_closure s = s.f
-
 -- the source and the closure
 abbrev pub inspect_err_parts : {I F : Type 0} → InspectErr I F → I × F
-inspect_err_parts s = (inspect_err_source s, inspect_err_closure s)
+inspect_err_parts s = (inspect_err_source s, s.f)
 
 -- and back
 pub inspect_err_made : {I F : Type 0} → Inverse (inspect_err_parts {I = I} {F = F})

@@ -5,9 +5,9 @@ use Rattle.fallible_iterator.specs.Contract.{Contract, Inverse}
 use Rattle.fallible_iterator.specs.Lists.{result_answer}
 use Rattle.fallible_iterator.specs.Refusals.{RefusedAs}
 use Rattle.fallible_itertools_adapters.specs.BeforeStop.{held_one}
-use Rattle.fallible_itertools_adapters.specs.Plan.{HintPlan, Making, Plan, calls, makes, none_held, passes, plan_contract, plan_meets}
+use Rattle.fallible_itertools_adapters.specs.Plan.{HintPlan, Transition, Plan, calls, makes, none_held, passes, plan_contract, plan_meets}
 use Rattle.fallible_itertools_adapters.specs.Staged.{plan_does, staged}
-use Rattle.fallible_itertools_adapters.specs.Staging.{StagedTrace, item_comes, made_before, one_made}
+use Rattle.fallible_itertools_adapters.specs.Staging.{StagedTrace, item_comes, emitted_then, one_emitted}
 use Rattle.std.specs.declared.alloc.AllocError.{AllocError}
 use Rattle.fallible_itertools_adapters.specs.declared.intersperse.Intersperse.{Intersperse}
 use Rattle.std.proofs.Common.{refl}
@@ -15,12 +15,12 @@ use Rattle.std.proofs.Common.{refl}
 -- ---- what each item makes
 
 -- the separator, or what making it failed with, and then the item is due
-abbrev pub separated_by : {A E : Type 0} → A → Result A E → Making Bool A A E
-separated_by x v = (made_before (result_answer v) x, true)
+abbrev pub separated_by : {A E : Type 0} → A → Result A E → Transition Bool A A E
+separated_by x v = (emitted_then (result_answer v) x, true)
 
 -- Whether an item came is held. The first item is yielded; before each later one a separator is made.
-abbrev pub intersperse_plan : {A E : Type 0} → Bool → A → Plan (Unit {0}) (Result A E) (Making Bool A A E)
-intersperse_plan false x = makes (one_made (item x), true)
+abbrev pub intersperse_plan : {A E : Type 0} → Bool → A → Plan (Unit {0}) (Result A E) (Transition Bool A A E)
+intersperse_plan false x = makes (one_emitted (item x), true)
 intersperse_plan true x = calls tt (separated_by x)
 
 -- ---- its hint

@@ -44,13 +44,9 @@ positions_contract m g = leaving_out_contract m (item_call g) (λ P f. IsCallabl
 abbrev pub positions_source : {I F : Type 0} → Positions I F → Enumerate I
 positions_source s = s.it
 
--- the closure
-abbrev pub positions_closure : {I F : Type 0} → Positions I F → F
-positions_closure s = s.f
-
 -- the source, which numbers its items, and the closure
 abbrev pub positions_parts : {I F : Type 0} → Positions I F → Enumerate I × F
-positions_parts s = (positions_source s, positions_closure s)
+positions_parts s = (positions_source s, s.f)
 
 -- and back
 pub positions_made : {I F : Type 0} → Inverse (positions_parts {I = I} {F = F})

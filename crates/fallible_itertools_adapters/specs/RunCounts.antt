@@ -2,27 +2,27 @@
 use Rattle.std.specs.Prelude.{ℕ, ◌+◌, ◌-◌, ◌^◌, min, Bool, true, false, Option, Some, None, Result, Ok, Err, List, [], ◌∷◌}
 use Rattle.fallible_iterator.specs.Traces.{item}
 use Rattle.fallible_itertools_adapters.specs.BeforeStop.{before_stop}
-use Rattle.fallible_itertools_adapters.specs.Plan.{Making, Plan, calls, makes}
+use Rattle.fallible_itertools_adapters.specs.Plan.{Transition, Plan, calls, makes}
 use Rattle.fallible_itertools_adapters.specs.Staged.{as_function, plan_does, staged}
-use Rattle.fallible_itertools_adapters.specs.Staging.{one_made, stop_comes}
+use Rattle.fallible_itertools_adapters.specs.Staging.{one_emitted, stop_comes}
 
 -- the number with one more; it stays at the greatest `usize`
 abbrev pub one_more : ℕ → ℕ
 one_more n = min (n + 1) (2 ^ 64 - 1)
 
 -- What comes of an item x beside the one that is held with its number, by whether they are the same: if they are, x is left out and counted; otherwise what is held comes, and x is held with 1. If that failed, x is lost, and what is held comes before the failure.
-abbrev pub counted_by : {A E : Type 0} → ℕ × A → A → Result Bool E → Making (Option (ℕ × A)) (ℕ × A) (Option E) E
+abbrev pub counted_by : {A E : Type 0} → ℕ × A → A → Result Bool E → Transition (Option (ℕ × A)) (ℕ × A) (Option E) E
 counted_by p x (Ok true) = (None, Some (one_more p.0, p.1))
-counted_by p x (Ok false) = (one_made (item p), Some (1, x))
+counted_by p x (Ok false) = (one_emitted (item p), Some (1, x))
 counted_by p x (Err e) = (before_stop (Some p) (Some e), None)
 
 -- The first of items that are the same is held with their number. A call on it and the next item says whether they are the same.
-abbrev pub count_plan : {A E : Type 0} → Option (ℕ × A) → A → Plan (A × A) (Result Bool E) (Making (Option (ℕ × A)) (ℕ × A) (Option E) E)
+abbrev pub count_plan : {A E : Type 0} → Option (ℕ × A) → A → Plan (A × A) (Result Bool E) (Transition (Option (ℕ × A)) (ℕ × A) (Option E) E)
 count_plan None x = makes (None, Some (1, x))
 count_plan (Some p) x = calls (p.1, x) (counted_by p x)
 
 -- At a stop what is held comes, and nothing is held then.
-abbrev pub count_stops : {A E : Type 0} → Option (ℕ × A) → Option E → Making (Option (ℕ × A)) (ℕ × A) (Option E) E
+abbrev pub count_stops : {A E : Type 0} → Option (ℕ × A) → Option E → Transition (Option (ℕ × A)) (ℕ × A) (Option E) E
 count_stops held stop = (before_stop held stop, None)
 
 -- ---- what is listed

@@ -5,20 +5,20 @@ use Rattle.std.specs.Borrow.{Bor}
 use Rattle.fallible_iterator.specs.Traces.{Answered, item, failure}
 use Rattle.fallible_iterator.specs.Contract.{Contract, Inverse}
 use Rattle.fallible_iterator.specs.Closures.{call_by_reference, takes_by_reference}
-use Rattle.fallible_itertools_adapters.specs.Plan.{HintPlan, Making, Plan, calls, closure_contract, makes, none_held, passes, plan_meets}
+use Rattle.fallible_itertools_adapters.specs.Plan.{HintPlan, Transition, Plan, calls, closure_contract, makes, none_held, passes, plan_meets}
 use Rattle.fallible_itertools_adapters.specs.Staged.{as_function, plan_does, staged}
-use Rattle.fallible_itertools_adapters.specs.Staging.{StagedTrace, ends_come, made_before, one_made}
+use Rattle.fallible_itertools_adapters.specs.Staging.{StagedTrace, ends_come, emitted_then, one_emitted}
 use Rattle.fallible_itertools_adapters.specs.declared.take_while_inclusive.TakeWhileInclusive.{TakeWhileInclusive}
 use Rattle.std.proofs.Common.{refl}
 
 -- The item, and after one that the predicate rejects ends come; or the predicate's failure on it.
-abbrev pub inclusive_by : {A E : Type 0} → A → Result Bool E → Making (Unit {0}) A (Unit {0}) E
-inclusive_by x (Ok true) = (one_made (item x), tt)
-inclusive_by x (Ok false) = (made_before (item x) tt, tt)
-inclusive_by x (Err e) = (one_made (failure e), tt)
+abbrev pub inclusive_by : {A E : Type 0} → A → Result Bool E → Transition (Unit {0}) A (Unit {0}) E
+inclusive_by x (Ok true) = (one_emitted (item x), tt)
+inclusive_by x (Ok false) = (emitted_then (item x) tt, tt)
+inclusive_by x (Err e) = (one_emitted (failure e), tt)
 
 -- Nothing is held. The predicate is called on each item.
-abbrev pub inclusive_plan : {A E : Type 0} → Unit {0} → A → Plan A (Result Bool E) (Making (Unit {0}) A (Unit {0}) E)
+abbrev pub inclusive_plan : {A E : Type 0} → Unit {0} → A → Plan A (Result Bool E) (Transition (Unit {0}) A (Unit {0}) E)
 inclusive_plan u x = calls x (inclusive_by x)
 
 -- the lower bound, at most 1, and the upper bound

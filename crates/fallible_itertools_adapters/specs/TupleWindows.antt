@@ -42,13 +42,9 @@ module _ {A E : Type 0} (is_clone : A → A → Type 0) (is_infallible : A → T
 abbrev pub tuple_windows_source : {I A E : Type 0} → TupleWindows I A E → I
 tuple_windows_source s = s.it
 
--- the item that is held, if there is one
-abbrev pub tuple_windows_held : {I A E : Type 0} → TupleWindows I A E → Option A
-tuple_windows_held s = s.held
-
 -- the source, and the item that is held
 abbrev pub tuple_windows_parts : {I A E : Type 0} → TupleWindows I A E → I × Option A
-tuple_windows_parts s = (tuple_windows_source s, tuple_windows_held s)
+tuple_windows_parts s = (tuple_windows_source s, s.held)
 
 -- and back
 pub tuple_windows_made : {I A E : Type 0} → Inverse (tuple_windows_parts {I = I} {A = A} {E = E})

@@ -33,13 +33,9 @@ tuples_contract m = passing_contract m tuples_asks (λ Q p. ⊤) as_answered_ite
 abbrev pub tuples_source : {I A E : Type 0} → Tuples I A E → I
 tuples_source s = s.it
 
--- the item that is held, if there is one
-abbrev pub tuples_held : {I A E : Type 0} → Tuples I A E → Option A
-tuples_held s = s.held
-
 -- the source, and the item that is held
 abbrev pub tuples_parts : {I A E : Type 0} → Tuples I A E → I × Option A
-tuples_parts s = (tuples_source s, tuples_held s)
+tuples_parts s = (tuples_source s, s.held)
 
 -- and back
 pub tuples_made : {I A E : Type 0} → Inverse (tuples_parts {I = I} {A = A} {E = E})

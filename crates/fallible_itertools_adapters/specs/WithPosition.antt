@@ -4,9 +4,9 @@ use Rattle.fallible_iterator.specs.Traces.{Answered, item}
 use Rattle.fallible_iterator.specs.Contract.{Contract, Inverse}
 use Rattle.fallible_iterator.specs.Hints.{hint_sum}
 use Rattle.fallible_itertools_adapters.specs.BeforeStop.{before_stop, held_one, hint_unless_end}
-use Rattle.fallible_itertools_adapters.specs.Plan.{HintPlan, Making, Plan, calls, calls_nothing, makes, plan_contract, plan_meets}
+use Rattle.fallible_itertools_adapters.specs.Plan.{HintPlan, Transition, Plan, calls, calls_nothing, makes, plan_contract, plan_meets}
 use Rattle.fallible_itertools_adapters.specs.Staged.{as_function, plan_does, staged}
-use Rattle.fallible_itertools_adapters.specs.Staging.{StagedTrace, one_made, stop_comes}
+use Rattle.fallible_itertools_adapters.specs.Staging.{StagedTrace, one_emitted, stop_comes}
 use Rattle.fallible_itertools_adapters.specs.declared.with_position.Position.{Position}
 use Rattle.fallible_itertools_adapters.specs.declared.with_position.Position.TheVariants.{First, Middle, Last, Only}
 use Rattle.fallible_itertools_adapters.specs.declared.with_position.WithPosition.{WithPosition}
@@ -23,9 +23,9 @@ position_before_stop true = Last
 position_before_stop false = Only
 
 -- An item is held until another one or a stop comes, and whether an item since the last stop came before it.
-abbrev pub position_plan : {A E : Type 0} → Option (Bool × A) → A → Plan (Unit {0}) (Unit {0}) (Making (Option (Bool × A)) (Position × A) (Option E) E)
+abbrev pub position_plan : {A E : Type 0} → Option (Bool × A) → A → Plan (Unit {0}) (Unit {0}) (Transition (Option (Bool × A)) (Position × A) (Option E) E)
 position_plan None x = makes (None, Some (false, x))
-position_plan (Some p) x = makes (one_made (item (position_before_item p.0, p.1)), Some (true, x))
+position_plan (Some p) x = makes (one_emitted (item (position_before_item p.0, p.1)), Some (true, x))
 
 -- what is held, with its position before a stop
 abbrev pub positioned_last : {A : Type 0} → Option (Bool × A) → Option (Position × A)
@@ -33,7 +33,7 @@ positioned_last (Some p) = Some (position_before_stop p.0, p.1)
 positioned_last None = None
 
 -- At a stop what is held comes, and nothing is held then.
-abbrev pub position_stops : {A E : Type 0} → Option (Bool × A) → Option E → Making (Option (Bool × A)) (Position × A) (Option E) E
+abbrev pub position_stops : {A E : Type 0} → Option (Bool × A) → Option E → Transition (Option (Bool × A)) (Position × A) (Option E) E
 position_stops held stop = (before_stop (positioned_last held) stop, None)
 
 -- None if an end is due, and otherwise the source's hint and the item that is held, since every item is yielded.

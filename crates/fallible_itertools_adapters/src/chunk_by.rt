@@ -8,11 +8,11 @@ ghost use Rattle.fallible_itertools_adapters.specs.Batch.{Put, Puts};
 ghost use Rattle.fallible_itertools_adapters.specs.BeforeStop.{held_one};
 ghost use Rattle.fallible_itertools_adapters.specs.ChunkBy.{chunk_by_contract, chunk_by_made, chunk_by_parts, chunk_by_plan, chunk_by_stops, group_by, joined, puts_by_key, takes_key};
 ghost use Rattle.fallible_itertools_adapters.specs.Laws.ChunkBy.{is_stage_chunk_by, lawful_chunk_by};
-ghost use Rattle.fallible_itertools_adapters.specs.Plan.{Makes, plan_item, plan_stop, plan_takes};
+ghost use Rattle.fallible_itertools_adapters.specs.Plan.{IsTransition, plan_item, plan_stop, plan_takes};
 ghost use Rattle.fallible_itertools_adapters.specs.Staging.{stop_comes};
 
 use crate::staging::{
-    AnswerAndDue, Made, Stage, Stop, drive_stage, let_go, next_until, one, stopped, with_held,
+    AnswerAndDue, Emitted, Stage, Stop, drive_stage, let_go, next_until, one, stopped, with_held,
 };
 use fallible_iterator::extending::{alone, pushed};
 use fallible_iterator::{FallibleIterator, Turn};
@@ -104,18 +104,18 @@ impl<X: Drop, K: PartialEq + Drop, E: From<AllocError>, F: FnMut(&X) -> Result<K
 
     ghost can_meet = { λ _ p x. plan_takes (takes_key F.FnMut) (chunk_by_plan {E = E} K.eq) p x };
 
-    ghost items = { λ _ p x made q. plan_item (puts_by_key E.from_gives K.eq F.FnMut)
-        (chunk_by_plan K.eq) chunk_by_stops p x made q };
+    ghost items = { λ _ p x emitted q. plan_item (puts_by_key E.from_gives K.eq F.FnMut)
+        (chunk_by_plan K.eq) chunk_by_stops p x emitted q };
 
-    ghost stops = { λ _ p stop made q. plan_stop (puts_by_key E.from_gives K.eq F.FnMut)
-        (chunk_by_plan K.eq) chunk_by_stops p stop made q };
+    ghost stops = { λ _ p stop emitted q. plan_stop (puts_by_key E.from_gives K.eq F.FnMut)
+        (chunk_by_plan K.eq) chunk_by_stops p stop emitted q };
 
     ghost most = { λ _. 1 };
 
     ghost held = { λ _ p. held_one p.0 };
 
     #[inline(always)]
-    fn on_item(&self, p: &mut (Option<(K, Vec<X>)>, F), item: X) -> Made<(K, Vec<X>), Stop<E>, E>
+    fn on_item(&self, p: &mut (Option<(K, Vec<X>)>, F), item: X) -> Emitted<(K, Vec<X>), Stop<E>, E>
         requires { plan_takes (takes_key F.FnMut) (chunk_by_plan {E = E} K.eq) p.old item }
         ensures { plan_item (puts_by_key E.from_gives K.eq F.FnMut) (chunk_by_plan K.eq)
             chunk_by_stops p.old item result p.new }
@@ -131,7 +131,7 @@ impl<X: Drop, K: PartialEq + Drop, E: From<AllocError>, F: FnMut(&X) -> Result<K
         &self,
         p: &mut (Option<(K, Vec<X>)>, F),
         stop: Stop<E>,
-    ) -> Made<(K, Vec<X>), Stop<E>, E>
+    ) -> Emitted<(K, Vec<X>), Stop<E>, E>
         ensures { plan_stop (puts_by_key E.from_gives K.eq F.FnMut) (chunk_by_plan K.eq)
             chunk_by_stops p.old stop result p.new }
     {
@@ -152,9 +152,9 @@ fn grouped<X: Drop, K: PartialEq + Drop, E: From<AllocError>>(
     group: &mut Option<(K, Vec<X>)>,
     key: K,
     item: X,
-) -> Made<(K, Vec<X>), Stop<E>, E>
+) -> Emitted<(K, Vec<X>), Stop<E>, E>
     ensures { (v : Put (Vec X Global) E) × Puts E.from_gives (joined K.eq group.old key) item v
-        × Makes (group_by K.eq group.old (Ok (key, v))) result group.new }
+        × IsTransition (group_by K.eq group.old (Ok (key, v))) result group.new }
 {
     let room = match group {
         Some((of, items)) => {

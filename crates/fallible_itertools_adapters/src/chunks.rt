@@ -10,7 +10,8 @@ ghost use Rattle.fallible_itertools_adapters.specs.Plan.{plan_item, plan_meets, 
 ghost use Rattle.fallible_itertools_adapters.specs.Staging.{DrawsUpTo, stop_comes};
 
 use crate::staging::{
-    AnswerAndDue, Made, Stage, Stop, drive_stage, let_go, made_of, one, put_due, stopped, with_held,
+    AnswerAndDue, Emitted, Stage, Stop, drive_stage, emitted_of, let_go, one, put_due, stopped,
+    with_held,
 };
 use fallible_iterator::extending::{alone, pushed};
 use fallible_iterator::{FallibleIterator, Turn};
@@ -103,8 +104,8 @@ where
         it.old held.old result.0 it.new (held.new, result.1) }
 {
     loop {
-        match made_of(it.draw(), held, adapter) {
-            Some(made) => return made,
+        match emitted_of(it.draw(), held, adapter) {
+            Some(emitted) => return emitted,
             None => {}
         }
     }
@@ -125,18 +126,18 @@ impl<X: Drop, E: From<AllocError>> Stage<((usize, Option<Vec<X>>), ()), X, E> fo
 
     ghost can_meet = { λ _ p x. ⊤ };
 
-    ghost items = { λ _ p x made q. plan_item (puts E.from_gives) (chunks_plan vec_count) chunks_stops p
-        x made q };
+    ghost items = { λ _ p x emitted q. plan_item (puts E.from_gives) (chunks_plan vec_count) chunks_stops p
+        x emitted q };
 
-    ghost stops = { λ _ p stop made q. plan_stop (puts E.from_gives) (chunks_plan vec_count)
-        chunks_stops p stop made q };
+    ghost stops = { λ _ p stop emitted q. plan_stop (puts E.from_gives) (chunks_plan vec_count)
+        chunks_stops p stop emitted q };
 
     ghost most = { λ _. 1 };
 
     ghost held = { λ _ p. batch_held p.0 };
 
     #[inline(always)]
-    fn on_item(&self, p: &mut ((usize, Option<Vec<X>>), ()), item: X) -> Made<Vec<X>, Stop<E>, E>
+    fn on_item(&self, p: &mut ((usize, Option<Vec<X>>), ()), item: X) -> Emitted<Vec<X>, Stop<E>, E>
         ensures { plan_item (puts E.from_gives) (chunks_plan vec_count) chunks_stops p.old item result
             p.new }
     {
@@ -160,7 +161,7 @@ impl<X: Drop, E: From<AllocError>> Stage<((usize, Option<Vec<X>>), ()), X, E> fo
         &self,
         p: &mut ((usize, Option<Vec<X>>), ()),
         stop: Stop<E>,
-    ) -> Made<Vec<X>, Stop<E>, E>
+    ) -> Emitted<Vec<X>, Stop<E>, E>
         ensures { plan_stop (puts E.from_gives) (chunks_plan vec_count) chunks_stops p.old stop result
             p.new }
     {

@@ -6,11 +6,11 @@ ghost use Rattle.fallible_itertools_adapters.specs.BeforeStop.{held_one};
 ghost use Rattle.fallible_itertools_adapters.specs.Coalesce.{coalesce_call, coalesce_contract, coalesce_made, coalesce_parts, coalesce_plan, coalesce_takes, coalesced_by};
 ghost use Rattle.fallible_itertools_adapters.specs.Dedup.{dedup_stops};
 ghost use Rattle.fallible_itertools_adapters.specs.Laws.Coalesce.{is_stage_coalesce, lawful_coalesce};
-ghost use Rattle.fallible_itertools_adapters.specs.Plan.{Makes, plan_item, plan_stop, plan_takes};
+ghost use Rattle.fallible_itertools_adapters.specs.Plan.{IsTransition, plan_item, plan_stop, plan_takes};
 ghost use Rattle.fallible_itertools_adapters.specs.Staging.{stop_comes};
 
 use crate::staging::{
-    AnswerAndDue, Made, Stage, Stop, drive_stage, let_go, next_until, one, stopped, with_held,
+    AnswerAndDue, Emitted, Stage, Stop, drive_stage, let_go, next_until, one, stopped, with_held,
 };
 use fallible_iterator::{FallibleIterator, Turn};
 
@@ -86,16 +86,16 @@ impl<X: Drop, E, F: FnMut(X, X) -> Result<Result<X, (X, X)>, E>> Stage<(Option<X
 
     ghost can_meet = { λ _ p x. plan_takes (coalesce_takes F.FnMut) (coalesce_plan {E = E}) p x };
 
-    ghost items = { λ _ p x made q. plan_item (coalesce_call F.FnMut) coalesce_plan dedup_stops p x made q };
+    ghost items = { λ _ p x emitted q. plan_item (coalesce_call F.FnMut) coalesce_plan dedup_stops p x emitted q };
 
-    ghost stops = { λ _ p stop made q. plan_stop (coalesce_call F.FnMut) coalesce_plan dedup_stops p stop made q };
+    ghost stops = { λ _ p stop emitted q. plan_stop (coalesce_call F.FnMut) coalesce_plan dedup_stops p stop emitted q };
 
     ghost most = { λ _. 1 };
 
     ghost held = { λ _ p. held_one p.0 };
 
     #[inline(always)]
-    fn on_item(&self, p: &mut (Option<X>, F), item: X) -> Made<X, Stop<E>, E>
+    fn on_item(&self, p: &mut (Option<X>, F), item: X) -> Emitted<X, Stop<E>, E>
         requires { plan_takes (coalesce_takes F.FnMut) (coalesce_plan {E = E}) p.old item }
         ensures { plan_item (coalesce_call F.FnMut) coalesce_plan dedup_stops p.old item result p.new }
     {
@@ -105,15 +105,15 @@ impl<X: Drop, E, F: FnMut(X, X) -> Result<Result<X, (X, X)>, E>> Stage<(Option<X
                 None
             }
             Some(first) => {
-                let (kept, made) = by_answer((p.1)(first, item));
+                let (kept, emitted) = by_answer((p.1)(first, item));
                 p.0 = kept;
-                made
+                emitted
             }
         }
     }
 
     #[inline(always)]
-    fn on_stop(&self, p: &mut (Option<X>, F), stop: Stop<E>) -> Made<X, Stop<E>, E>
+    fn on_stop(&self, p: &mut (Option<X>, F), stop: Stop<E>) -> Emitted<X, Stop<E>, E>
         ensures { plan_stop (coalesce_call F.FnMut) coalesce_plan dedup_stops p.old stop result p.new }
     {
         let_go(p.0.take(), stop)
@@ -127,10 +127,10 @@ impl<X: Drop, E, F: FnMut(X, X) -> Result<Result<X, (X, X)>, E>> Stage<(Option<X
     ghost is_stage = { λ _. is_stage_coalesce (coalesce_call F.FnMut) };
 }
 
-// What is buffered of the two items then, and what is made.
+// What is buffered of the two items then, and what is emitted.
 #[inline(always)]
-fn by_answer<X, E>(answer: Result<Result<X, (X, X)>, E>) -> (Option<X>, Made<X, Stop<E>, E>)
-    ensures { Makes (coalesced_by answer) result.1 result.0 }
+fn by_answer<X, E>(answer: Result<Result<X, (X, X)>, E>) -> (Option<X>, Emitted<X, Stop<E>, E>)
+    ensures { IsTransition (coalesced_by answer) result.1 result.0 }
 {
     match answer {
         Ok(Ok(both)) => (Some(both), None),

@@ -9,7 +9,7 @@ ghost use Rattle.fallible_itertools_adapters.specs.Plan.{calls_nothing, plan_ite
 ghost use Rattle.fallible_itertools_adapters.specs.Staging.{stop_comes};
 
 use crate::staging::{
-    AnswerAndDue, Made, Stage, Stop, drawn_until, drive_stage, let_go, one, put_due, stopped,
+    AnswerAndDue, Emitted, Stage, Stop, drawn_until, drive_stage, let_go, one, put_due, stopped,
     with_held,
 };
 use fallible_iterator::{FallibleIterator, Turn};
@@ -92,9 +92,9 @@ impl<X: PartialEq + Drop, E> Stage<(Option<X>, ()), X, E> for DedupStage {
 
     ghost can_meet = { λ _ p x. ⊤ };
 
-    ghost items = { λ _ p x made q. plan_item calls_nothing (dedup_plan X.eq) dedup_stops p x made q };
+    ghost items = { λ _ p x emitted q. plan_item calls_nothing (dedup_plan X.eq) dedup_stops p x emitted q };
 
-    ghost stops = { λ _ p stop made q. plan_stop calls_nothing (dedup_plan X.eq) dedup_stops p stop made
+    ghost stops = { λ _ p stop emitted q. plan_stop calls_nothing (dedup_plan X.eq) dedup_stops p stop emitted
         q };
 
     ghost most = { λ _. 1 };
@@ -102,10 +102,10 @@ impl<X: PartialEq + Drop, E> Stage<(Option<X>, ()), X, E> for DedupStage {
     ghost held = { λ _ p. held_one p.0 };
 
     #[inline(always)]
-    fn on_item(&self, p: &mut (Option<X>, ()), item: X) -> Made<X, Stop<E>, E>
+    fn on_item(&self, p: &mut (Option<X>, ()), item: X) -> Emitted<X, Stop<E>, E>
         ensures { plan_item calls_nothing (dedup_plan X.eq) dedup_stops p.old item result p.new }
     {
-        let (kept, made) = match p.0.take() {
+        let (kept, emitted) = match p.0.take() {
             None => (item, None),
             Some(first) => {
                 if first == item {
@@ -116,11 +116,11 @@ impl<X: PartialEq + Drop, E> Stage<(Option<X>, ()), X, E> for DedupStage {
             }
         };
         p.0 = Some(kept);
-        made
+        emitted
     }
 
     #[inline(always)]
-    fn on_stop(&self, p: &mut (Option<X>, ()), stop: Stop<E>) -> Made<X, Stop<E>, E>
+    fn on_stop(&self, p: &mut (Option<X>, ()), stop: Stop<E>) -> Emitted<X, Stop<E>, E>
         ensures { plan_stop calls_nothing (dedup_plan X.eq) dedup_stops p.old stop result p.new }
     {
         let_go(p.0.take(), stop)

@@ -6,11 +6,11 @@ ghost use Rattle.fallible_itertools_adapters.specs.BeforeStop.{held_one};
 ghost use Rattle.fallible_itertools_adapters.specs.Dedup.{dedup_stops};
 ghost use Rattle.fallible_itertools_adapters.specs.DedupBy.{dedup_by_contract, dedup_by_made, dedup_by_parts, dedup_by_plan, same_by, same_call, same_takes};
 ghost use Rattle.fallible_itertools_adapters.specs.Laws.DedupBy.{is_stage_dedup_by, lawful_dedup_by};
-ghost use Rattle.fallible_itertools_adapters.specs.Plan.{Makes, plan_item, plan_stop, plan_takes};
+ghost use Rattle.fallible_itertools_adapters.specs.Plan.{IsTransition, plan_item, plan_stop, plan_takes};
 ghost use Rattle.fallible_itertools_adapters.specs.Staging.{stop_comes};
 
 use crate::staging::{
-    AnswerAndDue, Made, Stage, Stop, drive_stage, let_go, next_until, one, stopped, with_held,
+    AnswerAndDue, Emitted, Stage, Stop, drive_stage, let_go, next_until, one, stopped, with_held,
 };
 use fallible_iterator::{FallibleIterator, Turn};
 
@@ -83,16 +83,16 @@ impl<X: Drop, E, F: FnMut(&X, &X) -> Result<bool, E>> Stage<(Option<X>, F), X, E
 
     ghost can_meet = { λ _ p x. plan_takes (same_takes F.FnMut) (dedup_by_plan {E = E}) p x };
 
-    ghost items = { λ _ p x made q. plan_item (same_call F.FnMut) dedup_by_plan dedup_stops p x made q };
+    ghost items = { λ _ p x emitted q. plan_item (same_call F.FnMut) dedup_by_plan dedup_stops p x emitted q };
 
-    ghost stops = { λ _ p stop made q. plan_stop (same_call F.FnMut) dedup_by_plan dedup_stops p stop made q };
+    ghost stops = { λ _ p stop emitted q. plan_stop (same_call F.FnMut) dedup_by_plan dedup_stops p stop emitted q };
 
     ghost most = { λ _. 1 };
 
     ghost held = { λ _ p. held_one p.0 };
 
     #[inline(always)]
-    fn on_item(&self, p: &mut (Option<X>, F), item: X) -> Made<X, Stop<E>, E>
+    fn on_item(&self, p: &mut (Option<X>, F), item: X) -> Emitted<X, Stop<E>, E>
         requires { plan_takes (same_takes F.FnMut) (dedup_by_plan {E = E}) p.old item }
         ensures { plan_item (same_call F.FnMut) dedup_by_plan dedup_stops p.old item result p.new }
     {
@@ -103,15 +103,15 @@ impl<X: Drop, E, F: FnMut(&X, &X) -> Result<bool, E>> Stage<(Option<X>, F), X, E
             }
             Some(first) => {
                 let same = (p.1)(&first, &item);
-                let (kept, made) = by_same(first, item, same);
+                let (kept, emitted) = by_same(first, item, same);
                 p.0 = kept;
-                made
+                emitted
             }
         }
     }
 
     #[inline(always)]
-    fn on_stop(&self, p: &mut (Option<X>, F), stop: Stop<E>) -> Made<X, Stop<E>, E>
+    fn on_stop(&self, p: &mut (Option<X>, F), stop: Stop<E>) -> Emitted<X, Stop<E>, E>
         ensures { plan_stop (same_call F.FnMut) dedup_by_plan dedup_stops p.old stop result p.new }
     {
         let_go(p.0.take(), stop)
@@ -125,10 +125,14 @@ impl<X: Drop, E, F: FnMut(&X, &X) -> Result<bool, E>> Stage<(Option<X>, F), X, E
     ghost is_stage = { λ _. is_stage_dedup_by (same_call F.FnMut) };
 }
 
-// What is buffered of the two items then, and what is made.
+// What is buffered of the two items then, and what is emitted.
 #[inline(always)]
-fn by_same<X: Drop, E>(first: X, item: X, same: Result<bool, E>) -> (Option<X>, Made<X, Stop<E>, E>)
-    ensures { Makes (same_by first item same) result.1 result.0 }
+fn by_same<X: Drop, E>(
+    first: X,
+    item: X,
+    same: Result<bool, E>,
+) -> (Option<X>, Emitted<X, Stop<E>, E>)
+    ensures { IsTransition (same_by first item same) result.1 result.0 }
 {
     match same {
         Ok(true) => (Some(first), None),

@@ -6,11 +6,11 @@ ghost use Rattle.fallible_iterator.specs.Laws.Contract.{lawful_parts};
 ghost use Rattle.fallible_itertools_adapters.specs.BeforeStop.{held_one};
 ghost use Rattle.fallible_itertools_adapters.specs.DedupByKey.{dedup_by_key_contract, dedup_by_key_made, dedup_by_key_parts, dedup_key_plan, dedup_key_stops, keyed_by, keyed_item};
 ghost use Rattle.fallible_itertools_adapters.specs.Laws.DedupByKey.{is_stage_dedup_key, lawful_dedup_by_key};
-ghost use Rattle.fallible_itertools_adapters.specs.Plan.{Makes, plan_item, plan_stop, plan_takes};
+ghost use Rattle.fallible_itertools_adapters.specs.Plan.{IsTransition, plan_item, plan_stop, plan_takes};
 ghost use Rattle.fallible_itertools_adapters.specs.Staging.{stop_comes};
 
 use crate::staging::{
-    AnswerAndDue, Made, Stage, Stop, drive_stage, let_go, next_until, one, stopped, with_held,
+    AnswerAndDue, Emitted, Stage, Stop, drive_stage, let_go, next_until, one, stopped, with_held,
 };
 use fallible_iterator::{FallibleIterator, Turn};
 
@@ -87,27 +87,27 @@ impl<X: Drop, E, K: PartialEq + Drop, F: FnMut(&X) -> Result<K, E>> Stage<(Optio
 
     ghost can_meet = { λ _ p x. plan_takes (takes_by_reference F.FnMut) (dedup_key_plan K.eq {E = E}) p x };
 
-    ghost items = { λ _ p x made q. plan_item (call_by_reference F.FnMut) (dedup_key_plan K.eq) dedup_key_stops p x made q };
+    ghost items = { λ _ p x emitted q. plan_item (call_by_reference F.FnMut) (dedup_key_plan K.eq) dedup_key_stops p x emitted q };
 
-    ghost stops = { λ _ p stop made q. plan_stop (call_by_reference F.FnMut) (dedup_key_plan K.eq) dedup_key_stops p stop made q };
+    ghost stops = { λ _ p stop emitted q. plan_stop (call_by_reference F.FnMut) (dedup_key_plan K.eq) dedup_key_stops p stop emitted q };
 
     ghost most = { λ _. 1 };
 
     ghost held = { λ _ p. held_one p.0 };
 
     #[inline(always)]
-    fn on_item(&self, p: &mut (Option<(K, X)>, F), item: X) -> Made<X, Stop<E>, E>
+    fn on_item(&self, p: &mut (Option<(K, X)>, F), item: X) -> Emitted<X, Stop<E>, E>
         requires { plan_takes (takes_by_reference F.FnMut) (dedup_key_plan K.eq {E = E}) p.old item }
         ensures { plan_item (call_by_reference F.FnMut) (dedup_key_plan K.eq) dedup_key_stops p.old item result p.new }
     {
         let key = (p.1)(&item);
-        let (kept, made) = by_key(p.0.take(), item, key);
+        let (kept, emitted) = by_key(p.0.take(), item, key);
         p.0 = kept;
-        made
+        emitted
     }
 
     #[inline(always)]
-    fn on_stop(&self, p: &mut (Option<(K, X)>, F), stop: Stop<E>) -> Made<X, Stop<E>, E>
+    fn on_stop(&self, p: &mut (Option<(K, X)>, F), stop: Stop<E>) -> Emitted<X, Stop<E>, E>
         ensures { plan_stop (call_by_reference F.FnMut) (dedup_key_plan K.eq) dedup_key_stops p.old stop result p.new }
     {
         let_go(item_of(p.0.take()), stop)
@@ -132,14 +132,14 @@ fn item_of<X, K: Drop>(held: Option<(K, X)>) -> Option<X>
     }
 }
 
-// What is buffered then, and what is made, by the key of the next item.
+// What is buffered then, and what is emitted, by the key of the next item.
 #[inline(always)]
 fn by_key<X: Drop, E, K: PartialEq + Drop>(
     held: Option<(K, X)>,
     item: X,
     key: Result<K, E>,
-) -> (Option<(K, X)>, Made<X, Stop<E>, E>)
-    ensures { Makes (keyed_by K.eq held item key) result.1 result.0 }
+) -> (Option<(K, X)>, Emitted<X, Stop<E>, E>)
+    ensures { IsTransition (keyed_by K.eq held item key) result.1 result.0 }
 {
     match (key, held) {
         (Err(e), held) => (None, let_go(item_of(held), Some(e))),

@@ -6,12 +6,12 @@ ghost use Rattle.fallible_itertools_adapters.specs.BeforeStop.{held_one};
 ghost use Rattle.fallible_itertools_adapters.specs.DedupBy.{same_call, same_takes};
 ghost use Rattle.fallible_itertools_adapters.specs.DedupByWithCount.{dedup_by_with_count_contract, dedup_by_with_count_made, dedup_by_with_count_parts};
 ghost use Rattle.fallible_itertools_adapters.specs.Laws.RunCounts.{is_stage_count, lawful_dedup_by_with_count};
-ghost use Rattle.fallible_itertools_adapters.specs.Plan.{Makes, plan_item, plan_stop, plan_takes};
+ghost use Rattle.fallible_itertools_adapters.specs.Plan.{IsTransition, plan_item, plan_stop, plan_takes};
 ghost use Rattle.fallible_itertools_adapters.specs.RunCounts.{count_plan, count_stops, counted_by};
 ghost use Rattle.fallible_itertools_adapters.specs.Staging.{stop_comes};
 
 use crate::staging::{
-    AnswerAndDue, Made, Stage, Stop, drive_stage, let_go, next_until, one, stopped, with_held,
+    AnswerAndDue, Emitted, Stage, Stop, drive_stage, let_go, next_until, one, stopped, with_held,
 };
 use fallible_iterator::{FallibleIterator, Turn};
 
@@ -87,9 +87,9 @@ impl<X: Drop, E, F: FnMut(&X, &X) -> Result<bool, E>> Stage<(Option<(usize, X)>,
 
     ghost can_meet = { λ _ p x. plan_takes (same_takes F.FnMut) (count_plan {E = E}) p x };
 
-    ghost items = { λ _ p x made q. plan_item (same_call F.FnMut) count_plan count_stops p x made q };
+    ghost items = { λ _ p x emitted q. plan_item (same_call F.FnMut) count_plan count_stops p x emitted q };
 
-    ghost stops = { λ _ p stop made q. plan_stop (same_call F.FnMut) count_plan count_stops p stop made
+    ghost stops = { λ _ p stop emitted q. plan_stop (same_call F.FnMut) count_plan count_stops p stop emitted
         q };
 
     ghost most = { λ _. 1 };
@@ -97,7 +97,7 @@ impl<X: Drop, E, F: FnMut(&X, &X) -> Result<bool, E>> Stage<(Option<(usize, X)>,
     ghost held = { λ _ p. held_one p.0 };
 
     #[inline(always)]
-    fn on_item(&self, p: &mut (Option<(usize, X)>, F), item: X) -> Made<(usize, X), Stop<E>, E>
+    fn on_item(&self, p: &mut (Option<(usize, X)>, F), item: X) -> Emitted<(usize, X), Stop<E>, E>
         requires { plan_takes (same_takes F.FnMut) (count_plan {E = E}) p.old item }
         ensures { plan_item (same_call F.FnMut) count_plan count_stops p.old item result p.new }
     {
@@ -108,9 +108,9 @@ impl<X: Drop, E, F: FnMut(&X, &X) -> Result<bool, E>> Stage<(Option<(usize, X)>,
             }
             Some((count, first)) => {
                 let same = (p.1)(&first, &item);
-                let (kept, made) = by_same(count, first, item, same);
+                let (kept, emitted) = by_same(count, first, item, same);
                 p.0 = kept;
-                made
+                emitted
             }
         }
     }
@@ -120,7 +120,7 @@ impl<X: Drop, E, F: FnMut(&X, &X) -> Result<bool, E>> Stage<(Option<(usize, X)>,
         &self,
         p: &mut (Option<(usize, X)>, F),
         stop: Stop<E>,
-    ) -> Made<(usize, X), Stop<E>, E>
+    ) -> Emitted<(usize, X), Stop<E>, E>
         ensures { plan_stop (same_call F.FnMut) count_plan count_stops p.old stop result p.new }
     {
         let_go(p.0.take(), stop)
@@ -134,15 +134,15 @@ impl<X: Drop, E, F: FnMut(&X, &X) -> Result<bool, E>> Stage<(Option<(usize, X)>,
     ghost is_stage = { λ _. is_stage_count (same_call F.FnMut) };
 }
 
-// What is buffered of the two items then, and what is made.
+// What is buffered of the two items then, and what is emitted.
 #[inline(always)]
 fn by_same<X: Drop, E>(
     count: usize,
     first: X,
     item: X,
     same: Result<bool, E>,
-) -> (Option<(usize, X)>, Made<(usize, X), Stop<E>, E>)
-    ensures { Makes (counted_by (count, first) item same) result.1 result.0 }
+) -> (Option<(usize, X)>, Emitted<(usize, X), Stop<E>, E>)
+    ensures { IsTransition (counted_by (count, first) item same) result.1 result.0 }
 {
     match same {
         Ok(true) => (Some((count.saturating_add(1), first)), None),

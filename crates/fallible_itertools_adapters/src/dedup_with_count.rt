@@ -11,7 +11,7 @@ ghost use Rattle.fallible_itertools_adapters.specs.Staged.{calls_function};
 ghost use Rattle.fallible_itertools_adapters.specs.Staging.{stop_comes};
 
 use crate::staging::{
-    AnswerAndDue, Made, Stage, Stop, drawn_until, drive_stage, let_go, one, put_due, stopped,
+    AnswerAndDue, Emitted, Stage, Stop, drawn_until, drive_stage, let_go, one, put_due, stopped,
     with_held,
 };
 use fallible_iterator::{FallibleIterator, Turn};
@@ -95,22 +95,22 @@ impl<X: PartialEq + Drop, E> Stage<(Option<(usize, X)>, ()), X, E> for EqualCoun
 
     ghost can_meet = { λ _ p x. ⊤ };
 
-    ghost items = { λ _ p x made q. plan_item (calls_function (are_equal X.eq)) count_plan count_stops
-        p x made q };
+    ghost items = { λ _ p x emitted q. plan_item (calls_function (are_equal X.eq)) count_plan count_stops
+        p x emitted q };
 
-    ghost stops = { λ _ p stop made q. plan_stop (calls_function (are_equal X.eq)) count_plan
-        count_stops p stop made q };
+    ghost stops = { λ _ p stop emitted q. plan_stop (calls_function (are_equal X.eq)) count_plan
+        count_stops p stop emitted q };
 
     ghost most = { λ _. 1 };
 
     ghost held = { λ _ p. held_one p.0 };
 
     #[inline(always)]
-    fn on_item(&self, p: &mut (Option<(usize, X)>, ()), item: X) -> Made<(usize, X), Stop<E>, E>
+    fn on_item(&self, p: &mut (Option<(usize, X)>, ()), item: X) -> Emitted<(usize, X), Stop<E>, E>
         ensures { plan_item (calls_function (are_equal X.eq)) count_plan count_stops p.old item result
             p.new }
     {
-        let (kept, made) = match p.0.take() {
+        let (kept, emitted) = match p.0.take() {
             None => ((1, item), None),
             Some((count, first)) => {
                 if first == item {
@@ -121,7 +121,7 @@ impl<X: PartialEq + Drop, E> Stage<(Option<(usize, X)>, ()), X, E> for EqualCoun
             }
         };
         p.0 = Some(kept);
-        made
+        emitted
     }
 
     #[inline(always)]
@@ -129,7 +129,7 @@ impl<X: PartialEq + Drop, E> Stage<(Option<(usize, X)>, ()), X, E> for EqualCoun
         &self,
         p: &mut (Option<(usize, X)>, ()),
         stop: Stop<E>,
-    ) -> Made<(usize, X), Stop<E>, E>
+    ) -> Emitted<(usize, X), Stop<E>, E>
         ensures { plan_stop (calls_function (are_equal X.eq)) count_plan count_stops p.old stop result
             p.new }
     {

@@ -6,10 +6,10 @@ ghost use Rattle.fallible_iterator.specs.Lists.{result_answer};
 ghost use Rattle.fallible_itertools_adapters.specs.Intersperse.{fitting, intersperse_contract, intersperse_hint, intersperse_made, intersperse_parts, intersperse_plan, interspersed_items, separator_cloned};
 ghost use Rattle.fallible_itertools_adapters.specs.Laws.Intersperse.{is_stage_intersperse, lawful_intersperse};
 ghost use Rattle.fallible_itertools_adapters.specs.Plan.{none_held, passes, plan_item, plan_stop};
-ghost use Rattle.fallible_itertools_adapters.specs.Staging.{item_comes, made_before};
+ghost use Rattle.fallible_itertools_adapters.specs.Staging.{item_comes, emitted_then};
 
 use crate::staging::{
-    AnswerAndDue, Made, Stage, Stop, drive_stage, next_stage, one, one_then, stopped,
+    AnswerAndDue, Emitted, Stage, Stop, drive_stage, next_stage, one, one_then, stopped,
 };
 use fallible_iterator::{FallibleIterator, Turn};
 use std::alloc::AllocError;
@@ -83,11 +83,11 @@ impl<X: Clone + Drop, E: From<AllocError>> Stage<(bool, X), X, E> for SeparatorC
 
     ghost can_meet = { λ _ p x. ⊤ };
 
-    ghost items = { λ _ p x made q. plan_item
-        (separator_cloned X.is_clone X.is_infallible E.from_gives) intersperse_plan passes p x made q };
+    ghost items = { λ _ p x emitted q. plan_item
+        (separator_cloned X.is_clone X.is_infallible E.from_gives) intersperse_plan passes p x emitted q };
 
-    ghost stops = { λ _ p stop made q. plan_stop
-        (separator_cloned X.is_clone X.is_infallible E.from_gives) intersperse_plan passes p stop made
+    ghost stops = { λ _ p stop emitted q. plan_stop
+        (separator_cloned X.is_clone X.is_infallible E.from_gives) intersperse_plan passes p stop emitted
         q };
 
     ghost most = { λ _. 2 };
@@ -95,7 +95,7 @@ impl<X: Clone + Drop, E: From<AllocError>> Stage<(bool, X), X, E> for SeparatorC
     ghost held = { λ _ p. none_held p.0 };
 
     #[inline(always)]
-    fn on_item(&self, p: &mut (bool, X), item: X) -> Made<X, X, E>
+    fn on_item(&self, p: &mut (bool, X), item: X) -> Emitted<X, X, E>
         ensures { plan_item (separator_cloned X.is_clone X.is_infallible E.from_gives) intersperse_plan
             passes p.old item result p.new }
     {
@@ -111,7 +111,7 @@ impl<X: Clone + Drop, E: From<AllocError>> Stage<(bool, X), X, E> for SeparatorC
     }
 
     #[inline(always)]
-    fn on_stop(&self, _p: &mut (bool, X), stop: Stop<E>) -> Made<X, X, E>
+    fn on_stop(&self, _p: &mut (bool, X), stop: Stop<E>) -> Emitted<X, X, E>
         ensures { plan_stop (separator_cloned X.is_clone X.is_infallible E.from_gives) intersperse_plan
             passes _p.old stop result _p.new }
     {
@@ -129,8 +129,8 @@ impl<X: Clone + Drop, E: From<AllocError>> Stage<(bool, X), X, E> for SeparatorC
 
 /// The separator, or what making it failed with, and then the item.
 #[inline(always)]
-pub(crate) fn separated<X, E>(separator: Result<X, E>, item: X) -> Made<X, X, E>
-    ensures { result ≡ made_before (result_answer separator) item }
+pub(crate) fn separated<X, E>(separator: Result<X, E>, item: X) -> Emitted<X, X, E>
+    ensures { result ≡ emitted_then (result_answer separator) item }
 {
     match separator {
         Ok(separator) => one_then(Ok(Some(separator)), item),

@@ -10,7 +10,7 @@ ghost use Rattle.fallible_itertools_adapters.specs.Plan.{none_held, passes, plan
 ghost use Rattle.fallible_itertools_adapters.specs.Staging.{item_comes};
 
 use crate::intersperse::{hint_parting, separated};
-use crate::staging::{AnswerAndDue, Made, Stage, Stop, drive_stage, next_stage, one, stopped};
+use crate::staging::{AnswerAndDue, Emitted, Stage, Stop, drive_stage, next_stage, one, stopped};
 use fallible_iterator::{FallibleIterator, Turn};
 
 /// The items of the source with what the closure returns between each two adjacent ones. An item that was drawn is buffered while the separator before it is yielded.
@@ -81,18 +81,18 @@ impl<X, E, F: FnMut() -> Result<X, E>> Stage<(bool, F), X, E> for SeparatorCall 
 
     ghost can_meet = { λ _ p x. plan_takes (takes_none F.FnMut) (intersperse_plan {E = E}) p x };
 
-    ghost items = { λ _ p x made q. plan_item (call_of_none F.FnMut) intersperse_plan passes p x made
+    ghost items = { λ _ p x emitted q. plan_item (call_of_none F.FnMut) intersperse_plan passes p x emitted
         q };
 
-    ghost stops = { λ _ p stop made q. plan_stop (call_of_none F.FnMut) intersperse_plan passes p stop
-        made q };
+    ghost stops = { λ _ p stop emitted q. plan_stop (call_of_none F.FnMut) intersperse_plan passes p stop
+        emitted q };
 
     ghost most = { λ _. 2 };
 
     ghost held = { λ _ p. none_held p.0 };
 
     #[inline(always)]
-    fn on_item(&self, p: &mut (bool, F), item: X) -> Made<X, X, E>
+    fn on_item(&self, p: &mut (bool, F), item: X) -> Emitted<X, X, E>
         requires { plan_takes (takes_none F.FnMut) (intersperse_plan {E = E}) p.old item }
         ensures { plan_item (call_of_none F.FnMut) intersperse_plan passes p.old item result p.new }
     {
@@ -105,7 +105,7 @@ impl<X, E, F: FnMut() -> Result<X, E>> Stage<(bool, F), X, E> for SeparatorCall 
     }
 
     #[inline(always)]
-    fn on_stop(&self, _p: &mut (bool, F), stop: Stop<E>) -> Made<X, X, E>
+    fn on_stop(&self, _p: &mut (bool, F), stop: Stop<E>) -> Emitted<X, X, E>
         ensures { plan_stop (call_of_none F.FnMut) intersperse_plan passes _p.old stop result _p.new }
     {
         one(stopped(stop))

@@ -1,9 +1,9 @@
-//! Adapters of one source by what each of its answers makes: nothing, or one answer and what is due after it.
+//! Adapters of one source by what is emitted at each of its answers: nothing, or one answer and what is due after it.
 ghost use Rattle.std.specs.Prelude.{◌≡◌, ℕ, if◌then◌else◌, Option, Result, Some, None, Ok, Err};
 ghost use Rattle.fallible_iterator.specs.Folds.{CallableDriving, Driven, TurnThrough, beside, beside_names};
 ghost use Rattle.fallible_iterator.specs.Passing.{IfItem};
 ghost use Rattle.fallible_itertools_adapters.specs.BeforeStop.{before_stop, held_hint};
-ghost use Rattle.fallible_itertools_adapters.specs.Staging.{DrawsUpTo, DueTakes, DueTold, IsStage, MadeTakes, MadeTold, Met, MetTakes, PassesNoneOver, StageTurns, TakesAll, Told, due_comes, due_left, made_before, one_made, stage_meets, stage_step, stop_answer};
+ghost use Rattle.fallible_itertools_adapters.specs.Staging.{DrawsUpTo, DueTakes, DueTold, IsStage, EmittedTakes, EmittedTold, Met, MetTakes, PassesNoneOver, StageTurns, TakesAll, Told, due_comes, due_left, emitted_then, one_emitted, stage_meets, stage_step, stop_answer};
 ghost use Rattle.std.specs.declared.ops.ControlFlow.TheVariants.{Break};
 
 use fallible_iterator::extending::Beside;
@@ -17,21 +17,21 @@ pub type Stop<E> = Option<E>;
 /// An answer, and what is due after it.
 pub type AnswerAndDue<B, D, E> = (Result<Option<B>, E>, Option<D>);
 
-/// What an answer of the source makes: nothing, or an answer, and what is due after it.
-pub type Made<B, D, E> = Option<AnswerAndDue<B, D, E>>;
+/// What is emitted at an answer of the source: nothing, or an answer, and what is due after it.
+pub type Emitted<B, D, E> = Option<AnswerAndDue<B, D, E>>;
 
 /// One answer.
 #[inline(always)]
-pub fn one<B, D, E>(answer: Result<Option<B>, E>) -> Made<B, D, E>
-    ensures { result ≡ one_made answer }
+pub fn one<B, D, E>(answer: Result<Option<B>, E>) -> Emitted<B, D, E>
+    ensures { result ≡ one_emitted answer }
 {
     Some((answer, None))
 }
 
 /// One answer, after which `due` is due.
 #[inline(always)]
-pub fn one_then<B, D, E>(answer: Result<Option<B>, E>, due: D) -> Made<B, D, E>
-    ensures { result ≡ made_before answer due }
+pub fn one_then<B, D, E>(answer: Result<Option<B>, E>, due: D) -> Emitted<B, D, E>
+    ensures { result ≡ emitted_then answer due }
 {
     Some((answer, Some(due)))
 }
@@ -47,9 +47,9 @@ pub fn stopped<B, E>(stop: Stop<E>) -> Result<Option<B>, E>
     }
 }
 
-/// What a stop makes where this is buffered: the buffered item, after which the stop is due; or the stop, where none is buffered.
+/// What is emitted at a stop where this is buffered: the buffered item, after which the stop is due; or the stop, where none is buffered.
 #[inline(always)]
-pub fn let_go<B, E>(held: Option<B>, stop: Stop<E>) -> Made<B, Stop<E>, E>
+pub fn let_go<B, E>(held: Option<B>, stop: Stop<E>) -> Emitted<B, Stop<E>, E>
     ensures { result ≡ before_stop held stop }
 {
     match held {
@@ -70,7 +70,7 @@ pub fn with_held(hint: (usize, Option<usize>), is_held: bool) -> (usize, Option<
     (low, high)
 }
 
-/// What an adapter makes of each answer of its source. It holds a `P`; the source yields `X`.
+/// What an adapter emits at each answer of its source. It holds a `P`; the source yields `X`.
 pub trait Stage<P, X, E> {
     /// What the adapter yields.
     type Kept;
@@ -84,7 +84,7 @@ pub trait Stage<P, X, E> {
     // Holds of what is held and of the items on which the call may be made then.
     ghost can_meet: { Self → P → X → Type 0 };
 
-    // Holds of what was held and the item, of what is made, and of what is held then.
+    // Holds of what was held and the item, of what is emitted, and of what is held then.
     ghost items: { Self → P → X
         → Option (Result (Option Self.Kept) E × Option Self.Due) → P → Type 0 };
 
@@ -92,26 +92,26 @@ pub trait Stage<P, X, E> {
     ghost stops: { Self → P → Option E
         → Option (Result (Option Self.Kept) E × Option Self.Due) → P → Type 0 };
 
-    // At most how many answers an item makes.
+    // At most how many answers are emitted at an item.
     ghost most: { Self → ℕ };
 
     // How many answers are held.
     ghost held: { Self → P → ℕ };
 
     /// What becomes of an item.
-    fn on_item(&self, p: &mut P, item: X) -> Made<Self::Kept, Self::Due, E>
+    fn on_item(&self, p: &mut P, item: X) -> Emitted<Self::Kept, Self::Due, E>
         requires { can_meet self.now p.old item }
         ensures { items self.now p.old item result p.new };
 
     /// What becomes of a stop of the source.
-    fn on_stop(&self, p: &mut P, stop: Stop<E>) -> Made<Self::Kept, Self::Due, E>
+    fn on_stop(&self, p: &mut P, stop: Stop<E>) -> Emitted<Self::Kept, Self::Due, E>
         ensures { stops self.now p.old stop result p.new };
 
     /// The answer that was due, and what is due after it.
     fn answer_due(&self, due: Self::Due) -> AnswerAndDue<Self::Kept, Self::Due, E>
         ensures { result ≡ (due_comes (comes self.now due), due_left due (comes self.now due)) };
 
-    // So many answers are made and held; a stop makes a stop.
+    // So many answers are emitted and held; at a stop a stop is.
     ghost is_stage: { (stage : Self)
         → IsStage (comes stage) (stage_meets (items stage) (stops stage)) (most stage)
         (held stage) };
@@ -119,11 +119,11 @@ pub trait Stage<P, X, E> {
 
 /// What becomes of an answer of the source.
 #[inline(always)]
-pub fn made_of<P, X, E, G: Stage<P, X, E>>(
+pub fn emitted_of<P, X, E, G: Stage<P, X, E>>(
     answer: Result<Option<X>, E>,
     p: &mut P,
     stage: &G,
-) -> Made<G::Kept, G::Due, E>
+) -> Emitted<G::Kept, G::Due, E>
     requires { IfItem (G.can_meet stage.now p.old) answer }
     ensures { stage_meets (G.items stage.now) (G.stops stage.now) p.old answer result p.new }
 {
@@ -190,18 +190,18 @@ fn tell_due<P, X, E, G: Stage<P, X, E>, C, R, K: Turn<C, G::Kept, R>>(
     }
 }
 
-// The caller's turn on what an answer of the source makes.
+// The caller's turn on what is emitted at an answer of the source.
 #[inline(always)]
-fn tell_made<P, X, E, G: Stage<P, X, E>, C, R, K: Turn<C, G::Kept, R>>(
-    made: Made<G::Kept, G::Due, E>,
+fn tell_emitted<P, X, E, G: Stage<P, X, E>, C, R, K: Turn<C, G::Kept, R>>(
+    emitted: Emitted<G::Kept, G::Due, E>,
     adapter: &G,
     state: &mut C,
     turn: &K,
 ) -> ControlFlow<AnswerAndDue<R, G::Due, E>, ()>
-    requires { MadeTakes (K.turns turn.now) (G.comes adapter.now) (K.can_turn turn.now) state.old made }
-    ensures { MadeTold (K.turns turn.now) (G.comes adapter.now) state.old made result state.new }
+    requires { EmittedTakes (K.turns turn.now) (G.comes adapter.now) (K.can_turn turn.now) state.old emitted }
+    ensures { EmittedTold (K.turns turn.now) (G.comes adapter.now) state.old emitted result state.new }
 {
-    match made {
+    match emitted {
         None => ControlFlow::Continue(()),
         Some((first, due)) => match tell(first, state, turn) {
             ControlFlow::Continue(()) => tell_due(due, adapter, state, turn),
@@ -210,7 +210,7 @@ fn tell_made<P, X, E, G: Stage<P, X, E>, C, R, K: Turn<C, G::Kept, R>>(
     }
 }
 
-/// One answer of an adapter that makes something of each answer of its source: what is due, without a draw, or what one draw makes.
+/// One answer of an adapter that emits something at each answer of its source: what is due, without a draw, or what is emitted at one draw.
 pub fn next_stage<I: FallibleIterator, P, G: Stage<P, I::Item, I::Error>>(
     it: &mut I,
     stage: &mut (P, Option<G::Due>),
@@ -232,7 +232,7 @@ where
             put_due(&mut stage.1, left);
             answer
         }
-        None => match made_of(it.next(), &mut stage.0, adapter) {
+        None => match emitted_of(it.next(), &mut stage.0, adapter) {
             Some((answer, next)) => {
                 put_due(&mut stage.1, next);
                 answer
@@ -242,7 +242,7 @@ where
     }
 }
 
-/// One answer of an adapter of which one draw may make nothing: what is due, without a draw, or what draws make, of which the last makes something.
+/// One answer of an adapter that may emit nothing at a draw: what is due, without a draw, or what is emitted at draws, at the last of which something is.
 pub fn next_until<I: FallibleIterator, P, G: Stage<P, I::Item, I::Error>>(
     it: &mut I,
     stage: &mut (P, Option<G::Due>),
@@ -271,7 +271,7 @@ where
     }
 }
 
-/// Draws until a draw makes something, where nothing is due: the answer, and what is due after it.
+/// Draws until something is emitted at a draw, where nothing is due: the answer, and what is due after it.
 #[inline(always)]
 pub fn drawn_until<I: FallibleIterator, P, G: Stage<P, I::Item, I::Error>>(
     it: &mut I,
@@ -289,13 +289,13 @@ where
 {
     let mut left = it.number();
     loop {
-        match made_of(it.draw(), held, adapter) {
-            Some(made) => return made,
+        match emitted_of(it.draw(), held, adapter) {
+            Some(emitted) => return emitted,
             None => left = left.one_less(),
         }
         // two draws a turn: a compiler would search a loop of one for its end many items at a time, which doesn't pay for short runs
-        match made_of(it.draw(), held, adapter) {
-            Some(made) => return made,
+        match emitted_of(it.draw(), held, adapter) {
+            Some(emitted) => return emitted,
             None => left = left.one_less(),
         }
     }
@@ -328,7 +328,7 @@ impl<'a, 'b, P, X, E, C, R, G: Stage<P, X, E>, K: Turn<C, G::Kept, R>> Turn<
         state: &mut Beside<'b, C, P>,
         item: X,
     ) -> ControlFlow<AnswerAndDue<R, G::Due, E>, ()> {
-        tell_made(
+        tell_emitted(
             self.adapter.on_item(state.p, item),
             self.adapter,
             state.c,
@@ -337,7 +337,7 @@ impl<'a, 'b, P, X, E, C, R, G: Stage<P, X, E>, K: Turn<C, G::Kept, R>> Turn<
     }
 }
 
-/// The fold of such an adapter: what is due, without a draw, and then the source's fold, whose turn is the caller's on what each item makes, and then what its stop makes.
+/// The fold of such an adapter: what is due, without a draw, and then the source's fold, whose turn is the caller's on what is emitted at each item, and then what is emitted at its stop.
 pub fn drive_stage<
     I: FallibleIterator,
     P,
@@ -408,8 +408,8 @@ where
 {
     match drive_items(it, held, adapter, state, turn) {
         Ok(Some(told)) => told,
-        Ok(None) => at_stop(None, held, adapter, state, turn),
-        Err(e) => at_stop(Some(e), held, adapter, state, turn),
+        Ok(None) => tell_stop(None, held, adapter, state, turn),
+        Err(e) => tell_stop(Some(e), held, adapter, state, turn),
     }
 }
 
@@ -449,7 +449,7 @@ where
 }
 
 // What the fold returns at a stop of its source, and what is due then.
-fn at_stop<P, X, E, G: Stage<P, X, E>, C, R, K: Turn<C, G::Kept, R>>(
+fn tell_stop<P, X, E, G: Stage<P, X, E>, C, R, K: Turn<C, G::Kept, R>>(
     stop: Stop<E>,
     held: &mut P,
     adapter: &G,
@@ -463,7 +463,7 @@ fn at_stop<P, X, E, G: Stage<P, X, E>, C, R, K: Turn<C, G::Kept, R>>(
         (stage_meets (G.items adapter.now) (G.stops adapter.now)) (K.turns turn.now)
         (state.old, held.old) (stop_answer stop) (Break result) (state.new, held.new) }
 {
-    match tell_made(adapter.on_stop(held, stop), adapter, state, turn) {
+    match tell_emitted(adapter.on_stop(held, stop), adapter, state, turn) {
         ControlFlow::Break(told) => told,
         ControlFlow::Continue(()) => unreachable!(),
     }

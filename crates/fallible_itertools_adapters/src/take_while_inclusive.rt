@@ -9,7 +9,7 @@ ghost use Rattle.fallible_itertools_adapters.specs.Staging.{ends_come};
 ghost use Rattle.fallible_itertools_adapters.specs.TakeWhileInclusive.{inclusive_contract, inclusive_made, inclusive_parts, inclusive_plan};
 
 use crate::staging::{
-    AnswerAndDue, Made, Stage, Stop, drive_stage, next_stage, one, one_then, stopped,
+    AnswerAndDue, Emitted, Stage, Stop, drive_stage, next_stage, one, one_then, stopped,
 };
 use fallible_iterator::{FallibleIterator, Turn};
 
@@ -84,18 +84,18 @@ impl<X: Drop, E, P: FnMut(&X) -> Result<bool, E>> Stage<((), P), X, E> for Inclu
 
     ghost can_meet = { λ _ p x. plan_takes (takes_by_reference P.FnMut) (inclusive_plan {E = E}) p x };
 
-    ghost items = { λ _ p x made q. plan_item (call_by_reference P.FnMut) inclusive_plan passes p x
-        made q };
+    ghost items = { λ _ p x emitted q. plan_item (call_by_reference P.FnMut) inclusive_plan passes p x
+        emitted q };
 
-    ghost stops = { λ _ p stop made q. plan_stop (call_by_reference P.FnMut) inclusive_plan passes p
-        stop made q };
+    ghost stops = { λ _ p stop emitted q. plan_stop (call_by_reference P.FnMut) inclusive_plan passes p
+        stop emitted q };
 
     ghost most = { λ _. 1 };
 
     ghost held = { λ _ p. none_held p.0 };
 
     #[inline(always)]
-    fn on_item(&self, p: &mut ((), P), item: X) -> Made<X, (), E>
+    fn on_item(&self, p: &mut ((), P), item: X) -> Emitted<X, (), E>
         requires { plan_takes (takes_by_reference P.FnMut) (inclusive_plan {E = E}) p.old item }
         ensures { plan_item (call_by_reference P.FnMut) inclusive_plan passes p.old item result p.new }
     {
@@ -107,7 +107,7 @@ impl<X: Drop, E, P: FnMut(&X) -> Result<bool, E>> Stage<((), P), X, E> for Inclu
     }
 
     #[inline(always)]
-    fn on_stop(&self, _p: &mut ((), P), stop: Stop<E>) -> Made<X, (), E>
+    fn on_stop(&self, _p: &mut ((), P), stop: Stop<E>) -> Emitted<X, (), E>
         ensures { plan_stop (call_by_reference P.FnMut) inclusive_plan passes _p.old stop result _p.new }
     {
         one(stopped(stop))

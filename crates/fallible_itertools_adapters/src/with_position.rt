@@ -9,7 +9,7 @@ ghost use Rattle.fallible_itertools_adapters.specs.Staging.{stop_comes};
 ghost use Rattle.fallible_itertools_adapters.specs.WithPosition.{position_before_item, position_before_stop, position_plan, position_stops, positioned_last, with_position_contract, with_position_made, with_position_parts};
 
 use crate::staging::{
-    AnswerAndDue, Made, Stage, Stop, drive_stage, let_go, next_stage, one, stopped,
+    AnswerAndDue, Emitted, Stage, Stop, drive_stage, let_go, next_stage, one, stopped,
 };
 use fallible_iterator::extending::sum;
 use fallible_iterator::{FallibleIterator, Turn};
@@ -112,9 +112,9 @@ impl<X: Drop, E> Stage<(Option<(bool, X)>, ()), X, E> for PositionStage {
 
     ghost can_meet = { λ _ p x. ⊤ };
 
-    ghost items = { λ _ p x made q. plan_item calls_nothing position_plan position_stops p x made q };
+    ghost items = { λ _ p x emitted q. plan_item calls_nothing position_plan position_stops p x emitted q };
 
-    ghost stops = { λ _ p stop made q. plan_stop calls_nothing position_plan position_stops p stop made
+    ghost stops = { λ _ p stop emitted q. plan_stop calls_nothing position_plan position_stops p stop emitted
         q };
 
     ghost most = { λ _. 1 };
@@ -122,7 +122,11 @@ impl<X: Drop, E> Stage<(Option<(bool, X)>, ()), X, E> for PositionStage {
     ghost held = { λ _ p. held_one p.0 };
 
     #[inline(always)]
-    fn on_item(&self, p: &mut (Option<(bool, X)>, ()), item: X) -> Made<(Position, X), Stop<E>, E>
+    fn on_item(
+        &self,
+        p: &mut (Option<(bool, X)>, ()),
+        item: X,
+    ) -> Emitted<(Position, X), Stop<E>, E>
         ensures { plan_item calls_nothing position_plan position_stops p.old item result p.new }
     {
         let is_later = p.0.is_some();
@@ -137,7 +141,7 @@ impl<X: Drop, E> Stage<(Option<(bool, X)>, ()), X, E> for PositionStage {
         &self,
         p: &mut (Option<(bool, X)>, ()),
         stop: Stop<E>,
-    ) -> Made<(Position, X), Stop<E>, E>
+    ) -> Emitted<(Position, X), Stop<E>, E>
         ensures { plan_stop calls_nothing position_plan position_stops p.old stop result p.new }
     {
         let_go(placed_last(p.0.take()), stop)

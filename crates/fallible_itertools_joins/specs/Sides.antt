@@ -15,7 +15,7 @@ use Rattle.fallible_iterator.specs.Folds.{DriveExit}
 use Rattle.fallible_iterator.specs.Fuse.{Fuse}
 use Rattle.std.specs.declared.ops.ControlFlow.{ControlFlow}
 use Rattle.std.specs.declared.ops.ControlFlow.TheVariants.{Continue, Break}
-use Rattle.fallible_itertools_joins.specs.declared.sides.Holding.{Holding}
+use Rattle.fallible_itertools_joins.specs.declared.sides.JoinSide.{JoinSide}
 use Rattle.fallible_itertools_joins.specs.declared.zip_longest.EitherOrBoth.{EitherOrBoth}
 use Rattle.fallible_itertools_joins.specs.declared.zip_longest.EitherOrBoth.TheVariants.{Both, Left, Right}
 
@@ -32,16 +32,16 @@ fused_contract m = parts_as fuse_parts (fuse_contract m)
 -- ---- one side
 
 -- the source
-abbrev pub holding_source : {I A : Type 0} → Holding I A → I
-holding_source s = s.it
+abbrev pub side_source : {I A : Type 0} → JoinSide I A → I
+side_source s = s.it
 
 -- the item that is held, if there is one
-abbrev pub holding_held : {I A : Type 0} → Holding I A → Option A
-holding_held s = s.held
+abbrev pub side_held : {I A : Type 0} → JoinSide I A → Option A
+side_held s = s.held
 
 -- the source, and the item that is held
-abbrev pub holding_parts : {I A : Type 0} → Holding I A → I × Option A
-holding_parts s = (holding_source s, holding_held s)
+abbrev pub side_parts : {I A : Type 0} → JoinSide I A → I × Option A
+side_parts s = (side_source s, side_held s)
 
 -- What a side yields, if it is drawn, and the source that it leaves: the held item without a draw, and otherwise one answer that is drawn.
 abbrev pub GivesHeldFirst : {S A E : Type 0} → (S → Answered A E → S → Type 0) → S × Option A → Answered A E → S → Type 0

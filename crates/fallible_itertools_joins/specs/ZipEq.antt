@@ -7,7 +7,7 @@ use Rattle.fallible_iterator.specs.Hints.{hint_smaller}
 use Rattle.fallible_iterator.specs.Sources.FromFn.{call_of_none}
 use Rattle.fallible_iterator.specs.Traces.{Answered, item, failure, end}
 use Rattle.fallible_iterator.specs.Fuse.{Fuse}
-use Rattle.fallible_itertools_joins.specs.Sides.{Rule, SidesTrace, fused_contract, fused_steps, sides_contract, holding_parts}
+use Rattle.fallible_itertools_joins.specs.Sides.{Rule, SidesTrace, fused_contract, fused_steps, sides_contract, side_parts}
 use Rattle.fallible_itertools_joins.specs.ZipLongest.{zipped_longest}
 use Rattle.fallible_itertools_joins.specs.declared.zip_eq.ZipEq.{ZipEq}
 use Rattle.fallible_itertools_joins.specs.declared.zip_longest.EitherOrBoth.{EitherOrBoth}
@@ -15,7 +15,7 @@ use Rattle.fallible_itertools_joins.specs.declared.zip_longest.EitherOrBoth.TheV
 
 -- the left with what is held of it, and the right, of which nothing is held, both fused; and the closure
 abbrev pub zip_eq_parts : {T U F A E B : Type 0} → ZipEq T U F A E → (Fuse T × Option A) × (Fuse U × Option B) × F
-zip_eq_parts s = (holding_parts s.left, (s.right, None), s.f)
+zip_eq_parts s = (side_parts s.left, (s.right, None), s.f)
 
 -- ---- the rule
 

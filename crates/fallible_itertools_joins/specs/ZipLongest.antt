@@ -4,14 +4,14 @@ use Rattle.std.specs.declared.cmp.Ordering.TheVariants.{Equal}
 use Rattle.fallible_iterator.specs.Traces.{Answered}
 use Rattle.fallible_iterator.specs.Contract.{Contract}
 use Rattle.fallible_iterator.specs.Fuse.{Fuse}
-use Rattle.fallible_itertools_joins.specs.Sides.{Join, OfEach, Rule, SidesTrace, fused_contract, fused_steps, sides_contract, holding_parts, join_rule, taken_among}
+use Rattle.fallible_itertools_joins.specs.Sides.{Join, OfEach, Rule, SidesTrace, fused_contract, fused_steps, sides_contract, side_parts, join_rule, taken_among}
 use Rattle.fallible_itertools_joins.specs.declared.zip_longest.EitherOrBoth.{EitherOrBoth}
 use Rattle.fallible_itertools_joins.specs.declared.zip_longest.EitherOrBoth.TheVariants.{Both, Left, Right}
 use Rattle.fallible_itertools_joins.specs.declared.zip_longest.ZipLongest.{ZipLongest}
 
 -- the left with what is held of it, and the right, of which nothing is held, both fused; it has no closure
 abbrev pub zip_longest_parts : {T U A E B : Type 0} → ZipLongest T U A E → (Fuse T × Option A) × (Fuse U × Option B) × Unit {0}
-zip_longest_parts s = (holding_parts s.left, (s.right, None), tt)
+zip_longest_parts s = (side_parts s.left, (s.right, None), tt)
 
 -- the items of both, or the item of the one side that has one, if there is one
 abbrev pub longest : {A B : Type 0} → Option A → Option B → Option (EitherOrBoth A B)

@@ -5,10 +5,9 @@ ghost use Rattle.fallible_iterator.specs.Laws.Contract.{lawful_parts};
 ghost use Rattle.fallible_itertools_joins.specs.Interleave.{TakesTurn, interleave_contract, interleave_made, interleave_parts};
 ghost use Rattle.fallible_itertools_joins.specs.Laws.Interleave.{lawful_interleave};
 
-use crate::sides::{DrawsBoth, turned};
+use crate::sides::{DrawsBoth, drive_both};
 use fallible_iterator::extending::sum;
 use fallible_iterator::{FallibleIterator, Fuse, Turn};
-use std::ops::ControlFlow;
 
 /// What two sources yield in turn, each fused, and the rest of the one that yields more. A failure takes its side's turn, as an item does.
 #[derive(Clone, Debug, Drop)]
@@ -55,23 +54,8 @@ impl<T: FallibleIterator, U: FallibleIterator<Item = T::Item, Error = T::Error>>
         state: &mut C,
         turn: &K,
     ) -> Result<Option<R>, T::Error> {
-        let mut left = (*self).number();
-        loop {
-            let (answer, alone) = self.next_of_both();
-            match turned(answer, state, turn) {
-                ControlFlow::Continue(()) => left = left.one_less(),
-                ControlFlow::Break(answer) => return answer,
-            }
-            if alone {
-                break;
-            }
-        }
-        loop {
-            match turned(self.next(), state, turn) {
-                ControlFlow::Continue(()) => left = left.one_less(),
-                ControlFlow::Break(answer) => return answer,
-            }
-        }
+        let number = (*self).number();
+        drive_both(self, number, state, turn)
     }
 
     ghost lawful = { lawful_parts interleave_made (lawful_interleave T.lawful U.lawful) };
@@ -79,6 +63,12 @@ impl<T: FallibleIterator, U: FallibleIterator<Item = T::Item, Error = T::Error>>
 
 impl<T: FallibleIterator, U: FallibleIterator<Item = T::Item, Error = T::Error>> DrawsBoth
     for Interleave<T, U> {
+    type Item = T::Item;
+
+    type Error = T::Error;
+
+    ghost joins = { parts_as interleave_parts (interleave_contract T.contract U.contract) };
+
     #[inline(always)]
     fn next_of_both(&mut self) -> (Result<Option<T::Item>, T::Error>, bool) {
         if self.right_next {
@@ -89,6 +79,8 @@ impl<T: FallibleIterator, U: FallibleIterator<Item = T::Item, Error = T::Error>>
             first_or_second(&mut self.left, &mut self.right)
         }
     }
+
+    ghost lawful_joins = { lawful_parts interleave_made (lawful_interleave T.lawful U.lawful) };
 }
 
 // What the first side yields, or at its end the second; and whether that end was met.

@@ -5,18 +5,17 @@ ghost use Rattle.fallible_iterator.specs.Laws.Contract.{lawful_parts};
 ghost use Rattle.fallible_itertools_joins.specs.MergeJoinBy.{merge_join_by_contract, merge_join_by_made, merge_join_by_parts};
 ghost use Rattle.fallible_itertools_joins.specs.Laws.MergeJoinBy.{lawful_merge_join_by};
 
-use crate::sides::{DrawsBoth, Holding, turned};
+use crate::sides::{DrawsBoth, JoinSide, drive_both};
 use crate::zip_longest::{EitherOrBoth, greater};
 use fallible_iterator::extending::sum;
 use fallible_iterator::{FallibleIterator, Fuse, Turn};
 use std::cmp::Ordering;
-use std::ops::ControlFlow;
 
 /// The items of two sources, each fused, in order. A closure compares an item of each: `Less` yields the left's alone, `Greater` the right's alone, and `Equal` both. A failure of a side is yielded, and loses nothing that is buffered. If the closure fails, its failure is yielded, and the two items are lost.
 #[derive(Clone, Debug, Drop)]
 pub struct MergeJoinBy<T: FallibleIterator, U: FallibleIterator<Error = T::Error>, F> {
-    pub(crate) left: Holding<Fuse<T>, T::Item>,
-    pub(crate) right: Holding<Fuse<U>, U::Item>,
+    pub(crate) left: JoinSide<Fuse<T>, T::Item>,
+    pub(crate) right: JoinSide<Fuse<U>, U::Item>,
     pub(crate) f: F,
 }
 
@@ -27,8 +26,8 @@ impl<T: FallibleIterator, U: FallibleIterator<Error = T::Error>, F> MergeJoinBy<
         ensures { merge_join_by_parts result ≡ ((left, None), (right, None), f) }
     {
         MergeJoinBy {
-            left: Holding::new(left),
-            right: Holding::new(right),
+            left: JoinSide::new(left),
+            right: JoinSide::new(right),
             f,
         }
     }
@@ -66,23 +65,8 @@ where
         state: &mut C,
         turn: &K,
     ) -> Result<Option<R>, T::Error> {
-        let mut left = (*self).number();
-        loop {
-            let (answer, alone) = self.next_of_both();
-            match turned(answer, state, turn) {
-                ControlFlow::Continue(()) => left = left.one_less(),
-                ControlFlow::Break(answer) => return answer,
-            }
-            if alone {
-                break;
-            }
-        }
-        loop {
-            match turned(self.next(), state, turn) {
-                ControlFlow::Continue(()) => left = left.one_less(),
-                ControlFlow::Break(answer) => return answer,
-            }
-        }
+        let number = (*self).number();
+        drive_both(self, number, state, turn)
     }
 
     ghost lawful = { lawful_parts merge_join_by_made
@@ -98,6 +82,12 @@ where
     T::Item: Drop,
     U::Item: Drop,
 {
+    type Item = EitherOrBoth<T::Item, U::Item>;
+
+    type Error = T::Error;
+
+    ghost joins = { parts_as merge_join_by_parts (merge_join_by_contract T.contract U.contract F.FnMut) };
+
     #[inline(always)]
     fn next_of_both(
         &mut self,
@@ -133,4 +123,6 @@ where
             Err(e) => (Err(e), false),
         }
     }
+
+    ghost lawful_joins = { lawful_parts merge_join_by_made (lawful_merge_join_by F.FnMut T.lawful U.lawful) };
 }

@@ -6,11 +6,10 @@ ghost use Rattle.fallible_iterator.specs.OneToOne.Map.{map_outcome};
 ghost use Rattle.fallible_itertools_joins.specs.PadUsing.{NextIndex, beside_index_step, pad_call, pad_takes, pad_using_contract, pad_using_made, pad_using_parts};
 ghost use Rattle.fallible_itertools_joins.specs.Laws.PadUsing.{lawful_pad_using};
 
-use crate::sides::{DrawsBoth, turned};
+use crate::sides::{DrawsBoth, drive_both};
 use crate::zip_longest::{EitherOrBoth, greater};
 use fallible_iterator::extending::{Outcome, Pass, passed};
 use fallible_iterator::{FallibleIterator, Fuse, Turn};
-use std::ops::ControlFlow;
 
 /// The items of the source, and then what the closure returns for each index below n that no item has. The source is fused. If the closure fails, its failure stands in that item's place.
 #[derive(Clone, Debug, Drop)]
@@ -61,23 +60,8 @@ impl<I: FallibleIterator, F: FnMut(usize) -> Result<I::Item, I::Error>> Fallible
         state: &mut C,
         turn: &K,
     ) -> Result<Option<R>, I::Error> {
-        let mut left = (*self).number();
-        loop {
-            let (answer, alone) = self.next_of_both();
-            match turned(answer, state, turn) {
-                ControlFlow::Continue(()) => left = left.one_less(),
-                ControlFlow::Break(answer) => return answer,
-            }
-            if alone {
-                break;
-            }
-        }
-        loop {
-            match turned(self.next(), state, turn) {
-                ControlFlow::Continue(()) => left = left.one_less(),
-                ControlFlow::Break(answer) => return answer,
-            }
-        }
+        let number = (*self).number();
+        drive_both(self, number, state, turn)
     }
 
     ghost lawful = { lawful_parts pad_using_made (lawful_pad_using F.FnMut I.lawful) };
@@ -85,12 +69,20 @@ impl<I: FallibleIterator, F: FnMut(usize) -> Result<I::Item, I::Error>> Fallible
 
 impl<I: FallibleIterator, F: FnMut(usize) -> Result<I::Item, I::Error>> DrawsBoth
     for PadUsing<I, F> {
+    type Item = I::Item;
+
+    type Error = I::Error;
+
+    ghost joins = { parts_as pad_using_parts (pad_using_contract I.contract F.FnMut) };
+
     #[inline(always)]
     fn next_of_both(&mut self) -> (Result<Option<I::Item>, I::Error>, bool) {
         let beside = beside_index(&mut self.it, &mut self.next, self.end);
         let alone = matches!(beside, Ok(Some(EitherOrBoth::Right(_))));
         (passed(beside, &mut self.f, &PadPass), alone)
     }
+
+    ghost lawful_joins = { lawful_parts pad_using_made (lawful_pad_using F.FnMut I.lawful) };
 }
 
 // An item as it is, and what the closure returns for an index alone.

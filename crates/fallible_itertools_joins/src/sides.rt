@@ -1,38 +1,40 @@
 // A side of what joins two sources, fuses each and buffers at most one item of each; and what a fold of both makes of an answer.
 ghost use Rattle.std.specs.Prelude.{◌≡◌, Option, Result, None, Some, Ok};
-ghost use Rattle.fallible_itertools_joins.specs.Sides.{GivesHeldFirst, SideHints, TurnedOn, holding_held, holding_parts, holding_source};
+ghost use Rattle.fallible_iterator.specs.Contract.{Contract, Lawful};
+ghost use Rattle.fallible_iterator.specs.Folds.{CallableDriving, Driven};
+ghost use Rattle.fallible_itertools_joins.specs.Sides.{GivesHeldFirst, SideHints, TurnedOn, side_held, side_parts, side_source};
 
 use fallible_iterator::extending::sum;
-use fallible_iterator::{FallibleIterator, Turn};
+use fallible_iterator::{FallibleIterator, Number, Turn};
 use std::ops::ControlFlow;
 
 // A source, and its buffered item, if there is one.
 #[derive(Clone, Debug, Drop)]
-pub(crate) struct Holding<I, X> {
+pub(crate) struct JoinSide<I, X> {
     pub(crate) it: I,
     pub(crate) held: Option<X>,
 }
 
-impl<I, X> Holding<I, X> {
+impl<I, X> JoinSide<I, X> {
     // The source, of which nothing is buffered.
     #[inline(always)]
-    pub(crate) fn new(it: I) -> Holding<I, X>
-        ensures { holding_parts result ≡ (it, None) }
+    pub(crate) fn new(it: I) -> JoinSide<I, X>
+        ensures { side_parts result ≡ (it, None) }
     {
-        Holding { it, held: None }
+        JoinSide { it, held: None }
     }
 }
 
-impl<I: FallibleIterator> Holding<I, I::Item>
+impl<I: FallibleIterator> JoinSide<I, I::Item>
 where
     I::Item: Drop,
 {
     // Takes the buffered item without a draw, or draws once.
     pub(crate) fn give(&mut self) -> Result<Option<I::Item>, I::Error>
-        requires { I.contract.can_next (holding_source self.old) }
-        ensures given { GivesHeldFirst I.contract.steps (holding_parts self.old)
-            result (holding_source self.new) }
-        ensures let_go { holding_held self.new ≡ None }
+        requires { I.contract.can_next (side_source self.old) }
+        ensures given { GivesHeldFirst I.contract.steps (side_parts self.old)
+            result (side_source self.new) }
+        ensures let_go { side_held self.new ≡ None }
     {
         match self.held.take() {
             Some(x) => Ok(Some(x)),
@@ -42,7 +44,7 @@ where
 
     // The source's hint, one more on each bound if an item is buffered.
     pub(crate) fn hint(&self) -> (usize, Option<usize>)
-        ensures { SideHints I.contract (holding_parts self.now) result }
+        ensures { SideHints I.contract (side_parts self.now) result }
     {
         let hint = self.it.size_hint();
         match &self.held {
@@ -52,12 +54,56 @@ where
     }
 }
 
-// What joins two sources. Its fold draws by one loop while both are drawn, and by another from then on, which a compiler simplifies.
-pub(crate) trait DrawsBoth: FallibleIterator {
+// What joins two sources, and draws both.
+pub(crate) trait DrawsBoth {
+    type Item;
+
+    type Error;
+
+    // Its contract.
+    ghost joins: { Contract Self Self.Item Self.Error };
+
     // What `next` returns, and whether one side alone is drawn from then on. Only speed depends on that.
     fn next_of_both(&mut self) -> (Result<Option<Self::Item>, Self::Error>, bool)
-        requires { Self.contract.can_next self.old }
-        ensures { Self.contract.steps self.old result.0 self.new };
+        requires { joins.can_next self.old }
+        ensures { joins.steps self.old result.0 self.new };
+
+    // Each draw keeps the contract.
+    ghost lawful_joins: { Lawful joins };
+}
+
+// Its fold, by one loop while both sides are drawn, and by another from then on, which a compiler simplifies.
+#[inline(always)]
+pub(crate) fn drive_both<J: DrawsBoth, C, R, K: Turn<C, J::Item, R>>(
+    join: &mut J,
+    left: Number,
+    state: &mut C,
+    turn: &K,
+) -> Result<Option<R>, J::Error>
+where
+    requires can_next { J.joins.can_next join.old }
+    requires bounded { J.joins.bound join.old left.value }
+    requires callable { CallableDriving J.joins.steps (K.turns turn.now) (K.can_turn turn.now)
+        join.old state.old }
+    ensures { Driven J.joins.steps (K.turns turn.now) join.old state.old result join.new state.new }
+{
+    let mut left = left;
+    loop {
+        let (answer, alone) = join.next_of_both();
+        match turned(answer, state, turn) {
+            ControlFlow::Continue(()) => left = left.one_less(),
+            ControlFlow::Break(answer) => return answer,
+        }
+        if alone {
+            break;
+        }
+    }
+    loop {
+        match turned(join.next_of_both().0, state, turn) {
+            ControlFlow::Continue(()) => left = left.one_less(),
+            ControlFlow::Break(answer) => return answer,
+        }
+    }
 }
 
 // What one turn of a fold makes of an answer: the fold goes on after an item on which the turn does, and returns otherwise.

@@ -4,14 +4,14 @@ ghost use Rattle.fallible_iterator.specs.Contract.{parts_as};
 ghost use Rattle.fallible_itertools_joins.specs.ZipEq.{zip_eq_contract, zip_eq_parts};
 ghost use Rattle.fallible_itertools_joins.specs.Laws.ZipEq.{lawful_zip_eq_parts};
 
-use crate::sides::Holding;
+use crate::sides::JoinSide;
 use fallible_iterator::extending::smaller;
 use fallible_iterator::{FallibleIterator, Fuse};
 
 /// The items of two sources, each fused, as pairs. Where one side returned `Ok(None)` and the other has an item, that item is lost, and what a closure returns is the failure. If the left fails, the right isn't drawn. If the right fails, the left's item is buffered for the next call.
 #[derive(Clone, Debug, Drop)]
 pub struct ZipEq<T: FallibleIterator, U, F> {
-    pub(crate) left: Holding<Fuse<T>, T::Item>,
+    pub(crate) left: JoinSide<Fuse<T>, T::Item>,
     pub(crate) right: Fuse<U>,
     pub(crate) f: F,
 }
@@ -23,7 +23,7 @@ impl<T: FallibleIterator, U: FallibleIterator<Error = T::Error>, F> ZipEq<T, U, 
         ensures { zip_eq_parts {B = U.Item} result ≡ ((left, None), (right, None), f) }
     {
         ZipEq {
-            left: Holding::new(left),
+            left: JoinSide::new(left),
             right,
             f,
         }

@@ -4,9 +4,8 @@ ghost use Rattle.fallible_iterator.specs.Contract.{parts_as};
 ghost use Rattle.fallible_itertools_joins.specs.ZipLongest.{both_of, hint_greater, only_left, left_of, longest, only_right, right_of, zip_longest_contract, zip_longest_parts};
 ghost use Rattle.fallible_itertools_joins.specs.Laws.ZipLongest.{lawful_zip_longest_parts};
 
-use crate::sides::{DrawsBoth, Holding, turned};
+use crate::sides::{DrawsBoth, JoinSide, drive_both};
 use fallible_iterator::{FallibleIterator, Fuse, Turn};
-use std::ops::ControlFlow;
 
 /// An item of each of two sources, or of one alone.
 #[derive(Clone, Debug, PartialEq, Eq, Drop)]
@@ -152,7 +151,7 @@ impl<A, B> EitherOrBoth<A, B> {
 /// The items of two sources, each fused, by their positions, up to `Ok(None)` of both. If the left fails, the right isn't drawn. If the right fails, the left's item is buffered for the next call.
 #[derive(Clone, Debug, Drop)]
 pub struct ZipLongest<T: FallibleIterator, U> {
-    pub(crate) left: Holding<Fuse<T>, T::Item>,
+    pub(crate) left: JoinSide<Fuse<T>, T::Item>,
     pub(crate) right: Fuse<U>,
 }
 
@@ -163,7 +162,7 @@ impl<T: FallibleIterator, U: FallibleIterator<Error = T::Error>> ZipLongest<T, U
         ensures { zip_longest_parts {B = U.Item} result ≡ ((left, None), (right, None), tt) }
     {
         ZipLongest {
-            left: Holding::new(left),
+            left: JoinSide::new(left),
             right,
         }
     }
@@ -195,23 +194,8 @@ where
         state: &mut C,
         turn: &K,
     ) -> Result<Option<R>, T::Error> {
-        let mut left = (*self).number();
-        loop {
-            let (answer, alone) = self.next_of_both();
-            match turned(answer, state, turn) {
-                ControlFlow::Continue(()) => left = left.one_less(),
-                ControlFlow::Break(answer) => return answer,
-            }
-            if alone {
-                break;
-            }
-        }
-        loop {
-            match turned(self.next(), state, turn) {
-                ControlFlow::Continue(()) => left = left.one_less(),
-                ControlFlow::Break(answer) => return answer,
-            }
-        }
+        let number = (*self).number();
+        drive_both(self, number, state, turn)
     }
 
     ghost lawful = { lawful_zip_longest_parts T.lawful U.lawful };
@@ -222,6 +206,12 @@ where
     T::Item: Drop,
     U::Item: Drop,
 {
+    type Item = EitherOrBoth<T::Item, U::Item>;
+
+    type Error = T::Error;
+
+    ghost joins = { parts_as zip_longest_parts (zip_longest_contract T.contract U.contract) };
+
     #[inline(always)]
     fn next_of_both(
         &mut self,
@@ -246,6 +236,8 @@ where
             Err(e) => (Err(e), false),
         }
     }
+
+    ghost lawful_joins = { lawful_zip_longest_parts T.lawful U.lawful };
 }
 
 // The greater of two hints' bounds.

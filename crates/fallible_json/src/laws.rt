@@ -43,16 +43,16 @@ pub fn law_minified<E>()
 pub fn law_faults<E>()
     ensures source { (text : List ℕ) (e : E) (l : List (Result Lexeme E))
         → minified text l ≡ Err (Source e)
-        → (before : List Lexeme) × (rest : List (Result Lexeme E))
-        × (l ≡ items before ++ Err e ∷ rest) × BeginsTree (tokens_of before) }
+        → (earlier : List Lexeme) × (rest : List (Result Lexeme E))
+        × (l ≡ items earlier ++ Err e ∷ rest) × BeginsTree (tokens_of earlier) }
     ensures unexpected { (text : List ℕ) (first : ℕ) (l : List (Result Lexeme E))
         → minified text l ≡ Err (Unexpected first)
-        → (before : List Lexeme) × (last : ℕ) × (token : Token) × (rest : List (Result Lexeme E))
-        × (l ≡ items before ++ Ok (first, last, token) ∷ rest)
-        × BeginsTree (tokens_of before) × ¬ (BeginsTree (tokens_of before ++ token ∷ [])) }
+        → (earlier : List Lexeme) × (last : ℕ) × (token : Token) × (rest : List (Result Lexeme E))
+        × (l ≡ items earlier ++ Ok (first, last, token) ∷ rest)
+        × BeginsTree (tokens_of earlier) × ¬ (BeginsTree (tokens_of earlier ++ token ∷ [])) }
     ensures ended { (text : List ℕ) (l : List (Result Lexeme E)) → minified text l ≡ Err Ended
-        → (before : List Lexeme) × (l ≡ items before) × BeginsTree (tokens_of before)
-        × ¬ ((tree : Tree) × (tokens_of before ≡ written tree)) }
+        → (earlier : List Lexeme) × (l ≡ items earlier) × BeginsTree (tokens_of earlier)
+        × ¬ ((tree : Tree) × (tokens_of earlier ≡ written tree)) }
 {}
 
 /// Bytes are a JSON text if and only if they are UTF-8 and their tokens are what is written of a tree. Without blanks it is the bytes of these tokens, one after the other.
@@ -96,18 +96,18 @@ pub fn law_printed()
 
 /// What is told to be expected at the first fault of placed tokens are the tokens with which those before it begin a tree, and no others.
 pub fn law_wanted<E>()
-    ensures source { (text : List ℕ) (before : List Lexeme) (e : E) (rest : List (Result Lexeme E))
+    ensures source { (text : List ℕ) (earlier : List Lexeme) (e : E) (rest : List (Result Lexeme E))
         (fault : Misplaced E) (wanted : Wanted)
-        → minified_or_wanted text (items before ++ Err e ∷ rest) ≡ Err (fault, wanted)
-        → BeginsTree (tokens_of before) → GoOnWith (tokens_of before) wanted }
-    ensures unexpected { (text : List ℕ) (before : List Lexeme) (x : Lexeme)
+        → minified_or_wanted text (items earlier ++ Err e ∷ rest) ≡ Err (fault, wanted)
+        → BeginsTree (tokens_of earlier) → GoOnWith (tokens_of earlier) wanted }
+    ensures unexpected { (text : List ℕ) (earlier : List Lexeme) (x : Lexeme)
         (rest : List (Result Lexeme E)) (fault : Misplaced E) (wanted : Wanted)
-        → minified_or_wanted text (items before ++ Ok x ∷ rest) ≡ Err (fault, wanted)
-        → BeginsTree (tokens_of before) → ¬ (BeginsTree (tokens_of before ++ x.2 ∷ []))
-        → GoOnWith (tokens_of before) wanted }
-    ensures ended { (text : List ℕ) (before : List Lexeme) (fault : Misplaced E) (wanted : Wanted)
-        → minified_or_wanted text (items before) ≡ Err (fault, wanted)
-        → BeginsTree (tokens_of before) → GoOnWith (tokens_of before) wanted }
+        → minified_or_wanted text (items earlier ++ Ok x ∷ rest) ≡ Err (fault, wanted)
+        → BeginsTree (tokens_of earlier) → ¬ (BeginsTree (tokens_of earlier ++ x.2 ∷ []))
+        → GoOnWith (tokens_of earlier) wanted }
+    ensures ended { (text : List ℕ) (earlier : List Lexeme) (fault : Misplaced E) (wanted : Wanted)
+        → minified_or_wanted text (items earlier) ≡ Err (fault, wanted)
+        → BeginsTree (tokens_of earlier) → GoOnWith (tokens_of earlier) wanted }
 {}
 
 /// The texts of an input are what is written of trees, one after the other. If it has no fault, it is UTF-8 and has no other tokens. If it is UTF-8, its fault is that of the tokens after the texts, as if these were all. Otherwise it is that of the tokens in front, or the byte that is no UTF-8. And an input that is one JSON text is this text alone.

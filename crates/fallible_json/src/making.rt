@@ -61,6 +61,7 @@ impl MakeTexts for Global {
         let more = if held < BUFFER { BUFFER } else { held };
         match buffer.resize(held.saturating_add(more), 0) {
             Ok(()) => Ok(()),
+            // No memory: a vector is resized unless an allocation fails.
             Err(_) => Err(AllocError),
         }
     }

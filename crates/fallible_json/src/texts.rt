@@ -170,6 +170,7 @@ impl Texts {
         }
         match add_bytes(&mut self.lines, bytes, first, last) {
             Ok(()) => Ok(()),
+            // No memory: adding bytes fails only if an allocation does.
             Err(_) => Err(Stop::Memory),
         }
     }

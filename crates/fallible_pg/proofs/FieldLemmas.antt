@@ -1,7 +1,7 @@
 -- Lemmas on the fields of a refusal.
-use Rattle.std.proofs.Common.{◌≡◌, ◌≢◌, ℕ, ◌+◌, ◌<◌, ◌≤◌, ◌==◌, Bool, true, false, List, [], ◌∷◌, ◌++◌, length, take, drop, slice_index, refl, sym, ap, ◌∙◌, append_assoc, append-nil, drop_of_length-le}
+use Rattle.std.proofs.Common.{◌≡◌, ◌≢◌, ℕ, ◌+◌, ◌<◌, ◌≤◌, ◌==◌, Bool, true, false, List, [], ◌∷◌, length, drop, slice_index, refl, sym, ap, ◌∙◌, drop_of_length-le}
 use Rattle.std.proofs.lemmas.Bool.{eq-eqb, ne_eqb}
-use Rattle.std.proofs.lemmas.List.{take_more, drop_more, take_all}
+use Rattle.std.proofs.lemmas.List.{drop_more}
 use Rattle.fallible_pg.specs.Faults.{field_from}
 use Rattle.fallible_pg.specs.Strings.{before_zero}
 

@@ -102,12 +102,12 @@ module _ {B : Type 0} (left : B → Option (List ℕ)) (stays : Bool → B → B
 
 module _ {B : Type 0} (left : B → Option (List ℕ)) (stays : Bool → B → B → Type 0) where
   -- where each answer is allowed
-  always_gives_any : (s : B × Option Ahead) (l : RowResults) → AlwaysGives (λ u r v. row_step left stays u r v × ⊤) s l → AlwaysGives (row_step left stays) s l
-  always_gives_any s [] i = λ r t w. i r t (w, tt)
-  always_gives_any s (y ∷ l) i = λ r t w. let d = i r t (w, tt) in (d.0, always_gives_any t l d.1)
+  always_gives_forget_state : (s : B × Option Ahead) (l : RowResults) → AlwaysGives (λ u r v. row_step left stays u r v × ⊤) s l → AlwaysGives (row_step left stays) s l
+  always_gives_forget_state s [] i = λ r t w. i r t (w, tt)
+  always_gives_forget_state s (y ∷ l) i = λ r t w. let d = i r t (w, tt) in (d.0, always_gives_forget_state t l d.1)
 
   pub lists_rows : NoReadFails stays → {s : Rows B} (reader : B) (limit : ℕ) {bytes : List ℕ} → rows_parts s ≡ begun reader limit → left reader ≡ Some bytes → length bytes < limit → Lists (seen_as rows_parts (unbounded_contract (row_step left stays))).steps s (row_results 1 (rows bytes))
-  lists_rows never {s = s} reader limit {bytes = bytes} is tells within = lists_seen rows_parts (row_step left stays) s is refl (always_gives_any (begun reader limit) (row_results 1 (rows bytes)) (gives_rows left stays (λ _. ⊤) (λ r q failed _. never r q failed) (begun reader limit) reader limit bytes refl tells within))
+  lists_rows never {s = s} reader limit {bytes = bytes} is tells within = lists_seen rows_parts (row_step left stays) s is refl (always_gives_forget_state (begun reader limit) (row_results 1 (rows bytes)) (gives_rows left stays (λ _. ⊤) (λ r q failed _. never r q failed) (begun reader limit) reader limit bytes refl tells within))
 
   pub lists_rows_where_read : {s : Rows B} (reader : B) (limit : ℕ) {bytes : List ℕ} → rows_parts s ≡ begun reader limit → left reader ≡ Some bytes → length bytes < limit → ListsWhereRead left stays s (row_results 1 (rows bytes))
   lists_rows_where_read {s = s} reader limit {bytes = bytes} is tells within = lists_seen rows_parts (row_step_where_read left stays) s is refl (gives_rows left stays (λ r. r ≢ failure Read) (λ r q failed other. other refl) (begun reader limit) reader limit bytes refl tells within)

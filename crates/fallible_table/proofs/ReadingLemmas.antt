@@ -1,8 +1,8 @@
 -- What was read of a table, and what is told of it.
 use Rattle.std.specs.Prelude.{◌≡◌, ℕ, ◌+◌, ◌-◌, ◌*◌, ◌/◌, ◌%◌, ◌^◌, ◌<◌, ◌≤◌, List, [], ◌++◌, length, take, drop, Option, Ok, Err}
-use Rattle.std.proofs.Common.{refl, sym, ap, ◌∙◌, subst, arith, lit<, length-append, length-take-le, append_assoc, take-add}
+use Rattle.std.proofs.Common.{refl, sym, ap, ◌∙◌, subst, arith, length-append, length-take-le, append_assoc, take-add}
 use Rattle.std.specs.Io.KnownBytes.{Consumes, Keeps, IsAtEnd}
-use Rattle.std.proofs.KnownBytes.{Consumes-nil, Consumes-trans, Consumes-kept}
+use Rattle.std.proofs.KnownBytes.{Consumes-nil, Consumes-kept}
 use Rattle.program_io.proofs.ReadingLemmas.{consumes_after}
 use Rattle.fallible_iterator.specs.Lists.{on_value}
 use Rattle.std.specs.declared.io.ErrorKind.{ErrorKind}

@@ -2,7 +2,7 @@
 use Rattle.std.specs.Prelude.{◌≡◌, ℕ, ◌+◌, ◌%◌, ◌^◌, Bool, ◌==◌, nat_eq, nat_le, nat_lt, if◌then◌else◌, List, [], ◌∷◌, ◌++◌, length, map, filter, take, Option, Some, None, Result, Ok, Err, codes, decimal}
 use Rattle.std.specs.List.{before_first, after_first, position_or_len}
 use Rattle.std.specs.Str.Lines.{lines}
-use Rattle.fallible_iterator.specs.Lists.{collected, items, mapped, on_value, scanned}
+use Rattle.fallible_iterator.specs.Lists.{collected, items, mapped, scanned}
 use Rattle.fallible_itertools.specs.ChunkBy.{chunked_by}
 use Rattle.fallible_itertools.specs.Chunks.{chunked}
 use Rattle.fallible_itertools.specs.CheckedSum.{sum_below, totalled}

@@ -37,13 +37,13 @@ module _ {A C R : Type 0} (made : List A → C → Type 0) (turns : C → A → 
     pub fails_with_gathered : (d : C) (e : E) → Driven steps turns s c (Err e) t d → FailsWith steps made s e
     fails_with_gathered d e w = fails_with_at_failure d e w w.last w.ran w.at.exit
 
-    refuses_item_at_stop : (d : C) (q : R) (stops : C → A → Type 0) → ((c : C) (x : A) (d : C) → turns c x (Break q) d → stops c x) → (w : Driven steps turns s c (Ok (Some q)) t d) (last : Answered A E) → Run steps s (map item w.items ++ last ∷ []) t → DriveExit turns w.at.carried last (Ok (Some q)) d → RefusesItem steps made stops s
-    refuses_item_at_stop d q stops by w (Ok None) ran h = absurd (let f = h.0 in cc)
-    refuses_item_at_stop d q stops by w (Ok (Some x)) ran h = let same : h.0 ≡ q = (let f = h.2 in cc) in record { items = w.items; refused = x; collection = w.at.carried; after = t; ran = ran; is_made = made_by w; refuses_it = by w.at.carried x d (subst (λ (z : R). turns w.at.carried x (Break z) d) same h.1) }
-    refuses_item_at_stop d q stops by w (Err f) ran h = absurd (let f = h.0 in cc)
+    refused_item_of_stop : (d : C) (q : R) (stops : C → A → Type 0) → ((c : C) (x : A) (d : C) → turns c x (Break q) d → stops c x) → (w : Driven steps turns s c (Ok (Some q)) t d) (last : Answered A E) → Run steps s (map item w.items ++ last ∷ []) t → DriveExit turns w.at.carried last (Ok (Some q)) d → RefusesItem steps made stops s
+    refused_item_of_stop d q stops by w (Ok None) ran h = absurd (let f = h.0 in cc)
+    refused_item_of_stop d q stops by w (Ok (Some x)) ran h = let same : h.0 ≡ q = (let f = h.2 in cc) in record { items = w.items; refused = x; collection = w.at.carried; after = t; ran = ran; is_made = made_by w; refuses_it = by w.at.carried x d (subst (λ (z : R). turns w.at.carried x (Break z) d) same h.1) }
+    refused_item_of_stop d q stops by w (Err f) ran h = absurd (let f = h.0 in cc)
 
     pub refuses_item_gathered : (d : C) (q : R) (stops : C → A → Type 0) → ((c : C) (x : A) (d : C) → turns c x (Break q) d → stops c x) → Driven steps turns s c (Ok (Some q)) t d → RefusesItem steps made stops s
-    refuses_item_gathered d q stops by w = refuses_item_at_stop d q stops by w w.last w.ran w.at.exit
+    refuses_item_gathered d q stops by w = refused_item_of_stop d q stops by w w.last w.ran w.at.exit
 
 -- ---- collect
 

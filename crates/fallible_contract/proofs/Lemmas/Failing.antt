@@ -4,21 +4,15 @@ use Rattle.std.proofs.Common.{refl, sym, ap, subst, ◌∙◌}
 use Rattle.fallible_contract.specs.Traces.{Answered}
 use Rattle.fallible_contract.specs.Closures.{Steady}
 use Rattle.fallible_contract.specs.Exchange.{exchanged, exchanged_result, steps_exchanged}
-use Rattle.fallible_contract.specs.Failing.{failing_outcome, FailingTrace, failing_step, FailingAnswer, failures_mapped, outcome_exchanged, RecoveringTrace}
+use Rattle.fallible_contract.specs.Failing.{failing_outcome, FailingTrace, failing_step, FailingAnswer, failures_mapped}
 use Rattle.fallible_contract.specs.Passing.{passing_step}
 use Rattle.fallible_contract.specs.Lists.{AlwaysGives, Acts}
 use Rattle.fallible_contract.specs.BothEnds.{ListsBothEnds, items_listed, failures_listed, source_list, passed_list}
-use Rattle.fallible_contract.specs.Laws.LawForm.{IsByAnswers, is_by_answers_renamed}
-use Rattle.fallible_contract.specs.Laws.Passing.{passing_by_answers}
 use Rattle.fallible_contract.proofs.Lemmas.Passing.{pass_trace_answer}
 use Rattle.fallible_contract.proofs.Lemmas.Exchange.{always_gives_exchanged, lists_both_ends_of_exchanged_results, map_exchanged_twice_is_same}
 use Rattle.fallible_contract.proofs.Lemmas.Lists.Passing.{passed, gives_all}
 use Rattle.fallible_contract.proofs.Lemmas.BothEnds.Passing.{lists_both_ends_passed, lists_both_ends_by_function}
-use Rattle.fallible_contract.specs.declared.passing.Outcome.{Outcome}
 use Rattle.fallible_contract.specs.declared.passing.Outcome.TheVariants.{End}
-
-pub recovering_by_answers : {S F X D V E : Type 0} (steps : S → Answered X D → S → Type 0) (call : F → D → V → F → Type 0) (outcome : D → V → Outcome X E) → IsByAnswers (RecoveringTrace steps call outcome)
-recovering_by_answers steps call outcome = is_by_answers_renamed exchanged (passing_by_answers (steps_exchanged steps) call (λ d v. outcome_exchanged (outcome d v)))
 
 -- what it makes of one answer of its source is its trace of one answer
 pub failing_trace_of_failing_answer : {S F X D E : Type 0} (steps : S → Answered X D → S → Type 0) {call : F → D → E → F → Type 0} {s t : S} {f g : F} (r : Answered X E) (drawn : Answered X D) → steps s drawn t → FailingAnswer call f drawn r g → FailingTrace steps call (s, f) (r ∷ []) (t, g)

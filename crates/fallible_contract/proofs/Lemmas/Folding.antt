@@ -11,7 +11,7 @@ use Rattle.fallible_contract.specs.Folding.{TurnedBy, FoldingTurn, FoldingTakes}
 use Rattle.fallible_contract.specs.Laws.Closures.{reaches_reflexive, reaches_weaken, reaches_by_call_first}
 use Rattle.fallible_contract.specs.Laws.Passing.{done, end_passes, failure_passes, keeps, refuses, closes, leaves_out, passes_of_pass_trace, pass_trace_of_passes}
 use Rattle.fallible_contract.proofs.Lemmas.Contract.{may_give_of_item_after_yields}
-use Rattle.fallible_contract.proofs.Lemmas.Folds.{holds_at_first_turn, holds_each_turn_after_item, driven_by_item_first, driven_end, driven_failure, driven_stop, fold_of_references_drives_values, names_kept}
+use Rattle.fallible_contract.proofs.Lemmas.Folds.{holds_at_first_turn, holds_each_turn_after_item, driven_by_item_first, driven_end, driven_failure, driven_of_first_break, fold_of_references_drives_values, names_kept}
 use Rattle.std.specs.declared.ops.ControlFlow.{ControlFlow}
 use Rattle.std.specs.declared.ops.ControlFlow.TheVariants.{Continue, Break}
 use Rattle.fallible_contract.specs.declared.folds.Beside.{Beside}
@@ -94,7 +94,7 @@ module _ {S C F X V B E R : Type 0} (steps : S → Answered X E → S → Type 0
   -- the item on which the source's turn stops
   drives_to_stop : (x : X) (v : V) (o : Outcome B E) (s t : S) (p q : C × F) (r : Answered R E) → steps s (item x) t → call p.1 x v q.1 → outcome x v ≡ o → TurnedBy turns p.0 o (Break r) q.0 → DrivesOfFolding s p r t q
   drives_to_stop x v (Kept y) s t p q r step called is (Continue u, w, e) = absurd cc
-  drives_to_stop x v (Kept y) s t p q r step called is (Break why, w, e) = let same : r ≡ Ok (Some why) = cc in subst (λ a. DrivesOfFolding s p a t q) (sym same) (driven_stop y (pass_trace_of_passes (keeps x v y step called is done)) w)
+  drives_to_stop x v (Kept y) s t p q r step called is (Break why, w, e) = let same : r ≡ Ok (Some why) = cc in subst (λ a. DrivesOfFolding s p a t q) (sym same) (driven_of_first_break y (pass_trace_of_passes (keeps x v y step called is done)) w)
   drives_to_stop x v LeftOut s t p q r step called is w = absurd (let e = w.0 in cc)
   drives_to_stop x v (Failure d) s t p q r step called is w = let same : r ≡ Err d = (let e = w.0 in cc) in subst (λ a. DrivesOfFolding s p a t q) (sym same) (subst (λ c. DrivesOfFolding s p (Err d) t (c, q.1)) (sym w.1) (driven_failure (pass_trace_of_passes (refuses x v d step called is done))))
   drives_to_stop x v End s t p q r step called is w = let same : r ≡ Ok None = (let e = w.0 in cc) in subst (λ a. DrivesOfFolding s p a t q) (sym same) (subst (λ c. DrivesOfFolding s p (Ok None) t (c, q.1)) (sym w.1) (driven_end (pass_trace_of_passes (closes x v step called is done))))
@@ -169,13 +169,13 @@ module _ {S C F X V B E R : Type 0} {m : Contract S X E} (l : Lawful m) (call : 
   }
 
 -- The same where it is known at each item that the closure may be called.
-pub takes_where_reached : {S C F X V B E R : Type 0} {steps : S → Answered X E → S → Type 0} (call : F → X → V → F → Type 0) (outcome : X → V → Outcome B E) (turns : C → B → ControlFlow R (Unit {0}) → C → Type 0) (pre : F → X → Type 0) {P : C → B → Type 0} {s : S} {f : F} {c : C} → ((items : List X) (t u : S) (p : C × F) (x : X) → Yields steps s items t → FoldsTo (goes_on (FoldingTurn call outcome turns)) (c, f) items p → steps t (item x) u → pre p.1 x)
+pub takes_where_callable_when_reached : {S C F X V B E R : Type 0} {steps : S → Answered X E → S → Type 0} (call : F → X → V → F → Type 0) (outcome : X → V → Outcome B E) (turns : C → B → ControlFlow R (Unit {0}) → C → Type 0) (pre : F → X → Type 0) {P : C → B → Type 0} {s : S} {f : F} {c : C} → ((items : List X) (t u : S) (p : C × F) (x : X) → Yields steps s items t → FoldsTo (goes_on (FoldingTurn call outcome turns)) (c, f) items p → steps t (item x) u → pre p.1 x)
     → HoldsAtEachTurn (passing_step steps call outcome) (goes_on turns) P (s, f) c → HoldsAtEachTurn steps (goes_on (FoldingTurn call outcome turns)) (FoldingTakes call outcome pre P) s (c, f)
-takes_where_reached {steps = steps} call outcome turns pre {P = P} {s = s} {f = f} {c = c} free holds = record {
+takes_where_callable_when_reached {steps = steps} call outcome turns pre {P = P} {s = s} {f = f} {c = c} free holds = record {
   at = λ items t u p x ran went step. (free items t u p x ran went step, (λ v g y called is. holds_at_first_turn (holds_of_folding_after_items steps call outcome turns P items s t (c, f) p ran went holds) (pass_trace_of_passes (keeps x v y step called is done))));
 }
 
 -- The same where no call requires anything.
 pub takes_where_always_callable : {S C F X V B E R : Type 0} {steps : S → Answered X E → S → Type 0} (call : F → X → V → F → Type 0) (outcome : X → V → Outcome B E) (turns : C → B → ControlFlow R (Unit {0}) → C → Type 0) {pre : F → X → Type 0} {P : C → B → Type 0} {s : S} {f : F} {c : C} → ((g : F) (x : X) → pre g x)
     → HoldsAtEachTurn (passing_step steps call outcome) (goes_on turns) P (s, f) c → HoldsAtEachTurn steps (goes_on (FoldingTurn call outcome turns)) (FoldingTakes call outcome pre P) s (c, f)
-takes_where_always_callable {steps = steps} call outcome turns {pre = pre} free holds = takes_where_reached call outcome turns pre (λ items t u p x ran went step. free p.1 x) holds
+takes_where_always_callable {steps = steps} call outcome turns {pre = pre} free holds = takes_where_callable_when_reached call outcome turns pre (λ items t u p x ran went step. free p.1 x) holds

@@ -57,8 +57,8 @@ module _ {S A E C R : Type 0} {steps : S → Answered A E → S → Type 0} {tur
   pub driven_failure : {s t : S} {c : C} {e : E} → steps s (Err e) t → Driven steps turns s c (Err e) t c
   driven_failure {c = c} {e = e} step = drained_by_last (Err e) step (record { carried = c; went = refl; exit = (refl, refl) })
 
-  pub driven_stop : {s t : S} {c d : C} {stop : R} (x : A) → steps s (item x) t → turns c x (Break stop) d → Driven steps turns s c (Ok (Some stop)) t d
-  driven_stop {c = c} {stop = stop} x step turn = drained_by_last (item x) step (record { carried = c; went = refl; exit = (stop, turn, refl) })
+  pub driven_of_first_break : {s t : S} {c d : C} {stop : R} (x : A) → steps s (item x) t → turns c x (Break stop) d → Driven steps turns s c (Ok (Some stop)) t d
+  driven_of_first_break {c = c} {stop = stop} x step turn = drained_by_last (item x) step (record { carried = c; went = refl; exit = (stop, turn, refl) })
 
   pub driven_by_items_first : {r : Answered R E} {u : S} {z : C} (items : List A) (s t : S) (c d : C) → Yields steps s items t → FoldsTo (goes_on turns) c items d → Driven steps turns t d r u z → Driven steps turns s c r u z
   driven_by_items_first {r} {u} {z} [] s t c d ran went h = subst (λ (v : S). Driven steps turns v c r u z) (sym ran) (subst (λ (k : C). Driven steps turns t k r u z) (sym went) h)

@@ -5,7 +5,7 @@ use Rattle.std.proofs.Common.{refl, sym, ap, subst, arith}
 use Rattle.fallible_contract.specs.Traces.{Answered}
 use Rattle.fallible_contract.specs.Folds.{OverExit, CountDrainsOn, LastDrains, NthDrains, IsNthTurn, DriveExit, Driven, goes_on}
 use Rattle.fallible_contract.specs.Goals.{goal_turns, IsCountTurn, IsLastTurn}
-use Rattle.fallible_contract.proofs.Lemmas.Folds.{drained_by_implication, driven_end, driven_failure, driven_stop, count_drains_on_ended, count_drains_on_failed, last_drains_ended, last_drains_failed}
+use Rattle.fallible_contract.proofs.Lemmas.Folds.{drained_by_implication, driven_end, driven_failure, driven_of_first_break, count_drains_on_ended, count_drains_on_failed, last_drains_ended, last_drains_failed}
 use Rattle.fallible_contract.proofs.Lemmas.Nth.{nth_drains_of_driven}
 use Rattle.std.specs.declared.ops.ControlFlow.{ControlFlow}
 use Rattle.std.specs.declared.ops.ControlFlow.TheVariants.{Continue, Break}
@@ -131,7 +131,7 @@ module _ {S A E : Type 0} {steps : S → Answered A E → S → Type 0} {s t : S
   pub nth_driven_where_none_left : (n : ℕ) (r : Answered A E) → n ≤ 0 → steps s r t → Driven steps IsNthTurn s n r t n
   nth_driven_where_none_left n (Ok None) none step = driven_end step
   nth_driven_where_none_left n (Err e) none step = driven_failure step
-  nth_driven_where_none_left n (Ok (Some x)) none step = driven_stop x step (omega (arith, none), refl, refl)
+  nth_driven_where_none_left n (Ok (Some x)) none step = driven_of_first_break x step (omega (arith, none), refl, refl)
 
 -- ---- what is said of each call says it of the goal
 

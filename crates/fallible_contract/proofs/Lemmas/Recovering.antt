@@ -13,7 +13,7 @@ use Rattle.fallible_contract.specs.Laws.Closures.{reaches_reflexive, reaches_by_
 use Rattle.fallible_contract.specs.Laws.Passing.{done, end_passes, failure_passes, keeps, refuses, closes, leaves_out, passes_of_pass_trace, pass_trace_of_passes}
 use Rattle.fallible_contract.proofs.Lemmas.Contract.{stays_by_yields}
 use Rattle.fallible_contract.proofs.Lemmas.Folding.{drained_by_same_steps, holds_each_turn_by_same_steps, holds_at_each_turn_of_held}
-use Rattle.fallible_contract.proofs.Lemmas.Folds.{holds_at_first_turn, holds_each_turn_after_item, holds_each_turn_after_items, driven_by_item_first, driven_end, driven_failure, driven_stop, driven_by_items_first}
+use Rattle.fallible_contract.proofs.Lemmas.Folds.{holds_at_first_turn, holds_each_turn_after_item, holds_each_turn_after_items, driven_by_item_first, driven_end, driven_failure, driven_of_first_break, driven_by_items_first}
 use Rattle.std.specs.declared.ops.ControlFlow.{ControlFlow}
 use Rattle.std.specs.declared.ops.ControlFlow.TheVariants.{Continue, Break}
 use Rattle.fallible_contract.specs.declared.passing.Outcome.{Outcome}
@@ -92,7 +92,7 @@ module _ {S F X D V E C R : Type 0} (steps : S → Answered X D → S → Type 0
       (subst (λ (z : Option R). DrivesOfRecovering (last.0, f) k (Ok z) (t, f) b) (sym same) (subst (λ (z : C). DrivesOfRecovering (last.0, f) k (Ok None) (t, f) z) (sym at.1) (driven_end (recovering_step_ends_at_end steps call outcome last.2))))
   drives_to_value_of_run f items (Ok (Some x)) s t c k b v ran went at = let same : v ≡ Some at.0 = (let z = at.2 in cc) in let last = yields_and_last_step_of_run steps (Ok (Some x)) items s t ran in
       driven_by_items_first items (s, f) (last.0, f) c k (yields_recovered f items s last.0 last.1) went
-      (subst (λ (z : Option R). DrivesOfRecovering (last.0, f) k (Ok z) (t, f) b) (sym same) (driven_stop x (item_recovered steps call outcome last.2) at.1))
+      (subst (λ (z : Option R). DrivesOfRecovering (last.0, f) k (Ok z) (t, f) b) (sym same) (driven_of_first_break x (item_recovered steps call outcome last.2) at.1))
   drives_to_value_of_run f items (Err e) s t c k b v ran went at = absurd (let z = at.0 in cc)
 
   -- a fold of the source that ended, or that a turn stopped, is one of the adapter
@@ -117,7 +117,7 @@ module _ {S F X D V E C R : Type 0} (steps : S → Answered X D → S → Type 0
 
     drives_to_stop_after_outcome : (v : V) (g : F) (o : Outcome X E) (z : C) (r : Answered R E) → call f d v g → outcome d v ≡ o → TurnedBy turns b o (Break r) z → DrivesOfRecovering (met.at, f) b r (t, g) z
     drives_to_stop_after_outcome v g (Kept y) z r called is (Continue u, w, e) = absurd cc
-    drives_to_stop_after_outcome v g (Kept y) z r called is (Break why, w, e) = let same : r ≡ Ok (Some why) = cc in subst (λ a. DrivesOfRecovering (met.at, f) b a (t, g) z) (sym same) (driven_stop y (recovering_step_gives_item_where_kept steps call outcome d v met.fails called y is) w)
+    drives_to_stop_after_outcome v g (Kept y) z r called is (Break why, w, e) = let same : r ≡ Ok (Some why) = cc in subst (λ a. DrivesOfRecovering (met.at, f) b a (t, g) z) (sym same) (driven_of_first_break y (recovering_step_gives_item_where_kept steps call outcome d v met.fails called y is) w)
     drives_to_stop_after_outcome v g LeftOut z r called is w = absurd (let e = w.0 in cc)
     drives_to_stop_after_outcome v g (Failure x) z r called is w = let same : r ≡ Err x = (let e = w.0 in cc) in subst (λ a. DrivesOfRecovering (met.at, f) b a (t, g) z) (sym same) (subst (λ k. DrivesOfRecovering (met.at, f) b (Err x) (t, g) k) (sym w.1) (driven_failure (recovering_step_fails_where_failure steps call outcome d v met.fails called x is)))
     drives_to_stop_after_outcome v g End z r called is w = let same : r ≡ Ok None = (let e = w.0 in cc) in subst (λ a. DrivesOfRecovering (met.at, f) b a (t, g) z) (sym same) (subst (λ k. DrivesOfRecovering (met.at, f) b (Ok None) (t, g) k) (sym w.1) (driven_end (recovering_step_ends_where_outcome_end steps call outcome d v met.fails called is)))

@@ -363,21 +363,21 @@ module _ {A B E : Type 0} (h : A → Result B E) where
     searched_mapped n (Ok x ∷ l) = searched_first n x (h x) l (searched_mapped (n + 1) l)
     searched_mapped n (Err d ∷ l) = refl
 
-  all_pick_same : (n : ℕ) (y : B) (x : A) (v : Bool) → all_pick n y v ≡ all_pick n x v
-  all_pick_same n y x true = refl
-  all_pick_same n y x false = refl
+  all_pick_ignores_item : (n : ℕ) (y : B) (x : A) (v : Bool) → all_pick n y v ≡ all_pick n x v
+  all_pick_ignores_item n y x true = refl
+  all_pick_ignores_item n y x false = refl
 
   pub all_of_mapped : (q : B → Result Bool E) (l : List (Result A E)) → all_of q (mapped h l) ≡ all_of (λ x. on_value (h x) q) l
   unfolding all_of
-  all_of_mapped q l = searched_mapped all_pick all_pick all_pick_same true q 0 l
+  all_of_mapped q l = searched_mapped all_pick all_pick all_pick_ignores_item true q 0 l
 
-  any_pick_same : (n : ℕ) (y : B) (x : A) (v : Bool) → any_pick n y v ≡ any_pick n x v
-  any_pick_same n y x true = refl
-  any_pick_same n y x false = refl
+  any_pick_ignores_item : (n : ℕ) (y : B) (x : A) (v : Bool) → any_pick n y v ≡ any_pick n x v
+  any_pick_ignores_item n y x true = refl
+  any_pick_ignores_item n y x false = refl
 
   pub any_of_mapped : (q : B → Result Bool E) (l : List (Result A E)) → any_of q (mapped h l) ≡ any_of (λ x. on_value (h x) q) l
   unfolding any_of
-  any_of_mapped q l = searched_mapped any_pick any_pick any_pick_same false q 0 l
+  any_of_mapped q l = searched_mapped any_pick any_pick any_pick_ignores_item false q 0 l
 
   position_pick_same : (n : ℕ) (y : B) (x : A) (v : Bool) → position_pick n y v ≡ position_pick n x v
   position_pick_same n y x true = refl

@@ -7,7 +7,7 @@ use Rattle.fallible_iterator.specs.Traces.{Answered}
 use Rattle.fallible_iterator.specs.Folds.{CallableDriving, CallableInFold, IsFoldTurn, Driven, FoldDrains}
 use Rattle.fallible_iterator.specs.Lists.{Lists, Acts, ActsWith, on_value, folded, pick_of, greatest, best_by}
 use Rattle.fallible_iterator.specs.Picking.{better}
-use Rattle.fallible_iterator.proofs.Lemmas.Folds.{callable_driving_through, driven_by_item_first, driven_end, driven_failure, driven_stop, fold_drains_ended, fold_drains_failed, fold_drains_stopped, fold_of_references_drives_values, holds_at_first_turn, holds_each_turn_after_item}
+use Rattle.fallible_iterator.proofs.Lemmas.Folds.{callable_driving_through, driven_by_item_first, driven_end, driven_failure, driven_of_first_break, fold_drains_ended, fold_drains_failed, fold_drains_stopped, fold_of_references_drives_values, holds_at_first_turn, holds_each_turn_after_item}
 use Rattle.fallible_iterator.proofs.Lemmas.Lists.Drawn.{folded_of_lists}
 use Rattle.fallible_itertools.specs.Keyed.{with_key, keyed}
 use Rattle.fallible_itertools.specs.MinMax.{with_item, or_less, first_least, both_of, minmaxed}
@@ -114,7 +114,7 @@ module _ {S A B E F : Type 0} (call : F → MinMaxResult B → A → Result (Min
   module _ (y : A) (second : steps u (Ok (Some y)) v) {h : F} where
     -- two draws, and a failure of the closure at the second
     pub fold_drains_where_second_call_fails : {e : E} → call g c y (Err e) h → FoldDrains steps call (λ e d. d ≡ e) s NoElements f (Err e) v
-    fold_drains_where_second_call_fails {e = e} fails = fold_drains_stopped call (λ e d. d ≡ e) (c, h) e (driven_by_item_first x first called (driven_stop y second fails))
+    fold_drains_where_second_call_fails {e = e} fails = fold_drains_stopped call (λ e d. d ≡ e) (c, h) e (driven_by_item_first x first called (driven_of_first_break y second fails))
 
     -- two draws, and then a fold whose state is the least item and the greatest, and the closure
     module _ {t : S} {p : B × B} {q : (B × B) × F} (called_again : call g c y (Ok (MinMax p.0 p.1)) h) where

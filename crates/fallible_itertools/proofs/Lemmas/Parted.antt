@@ -6,7 +6,7 @@ use Rattle.fallible_iterator.specs.BothEnds.{items_listed, failures_listed}
 use Rattle.fallible_iterator.specs.Collecting.{Collects}
 use Rattle.fallible_iterator.specs.Lists.{AlwaysGives, Lists, CollectedAs, collected}
 use Rattle.fallible_iterator.proofs.Lemmas.Lists.Drawn.{collected_of_lists}
-use Rattle.fallible_iterator.specs.Interleaved.{Interleaved, of_neither, of_first, of_second}
+use Rattle.fallible_iterator.specs.Interleaved.{Interleaved, interleaved_nil, of_first, of_second}
 use Rattle.fallible_itertools.specs.PartitionMap.{lefts, rights, MadeOfEithers}
 use Rattle.fallible_itertools.specs.Parted.{parted_step, eithers, without_source, PartitionedFailuresAs}
 use Rattle.fallible_itertools.specs.declared.partition_map.Either.{Either}
@@ -71,6 +71,6 @@ module _ {A E : Type 0} where
 
 -- items and failures make up the list, each in their order
 pub interleaved_parts : {A E : Type 0} (l : List (Result A E)) → Interleaved (map (λ x. Ok x) (items_listed l)) (map (λ e. Err e) (failures_listed l)) l
-interleaved_parts [] = of_neither
+interleaved_parts [] = interleaved_nil
 interleaved_parts (Ok x ∷ l) = of_first (Ok x) (interleaved_parts l)
 interleaved_parts (Err e ∷ l) = of_second (Err e) (interleaved_parts l)

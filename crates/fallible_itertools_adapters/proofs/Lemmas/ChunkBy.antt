@@ -15,8 +15,8 @@ use Rattle.fallible_itertools_adapters.specs.Batch.{Grown, NoRoom, Put, Puts}
 use Rattle.fallible_itertools_adapters.specs.BeforeStop.{HintsWhereHeld, before_stop, held_one}
 use Rattle.fallible_itertools_adapters.specs.ChunkBy.{Group, KeyedPut, MadeGroup, chunk_by_contract, chunk_by_due, chunk_by_parts, chunk_by_plan, chunk_by_source, chunk_by_stops, chunked_by, group_at, group_by, group_kept, joined, put_by_key, puts_by_key, takes_key}
 use Rattle.fallible_itertools_adapters.specs.Laws.ChunkBy.{group_by_buffers}
-use Rattle.fallible_itertools_adapters.specs.Plan.{Makes, Making, plan_can}
-use Rattle.fallible_itertools_adapters.specs.Staging.{Made, MayMeet, one_made}
+use Rattle.fallible_itertools_adapters.specs.Plan.{IsTransition, Transition, plan_can}
+use Rattle.fallible_itertools_adapters.specs.Staging.{Emitted, MayMeet, one_emitted}
 use Rattle.fallible_itertools_adapters.proofs.Lemmas.BeforeStop.{end_before_stop, hints_where_one_held, parted_by_failure}
 use Rattle.fallible_itertools_adapters.proofs.Lemmas.ChunkedBy.{group_by_is_made, group_made, grouped_from_is_never_nil}
 use Rattle.fallible_itertools_adapters.proofs.Lemmas.Plan.{plan_can_where_callable}
@@ -30,18 +30,18 @@ use Rattle.fallible_itertools_adapters.specs.declared.chunk_by.ChunkBy.{ChunkBy}
 
 module _ {A K E : Type 0} (from : AllocError → E → Type 0) (eq : K → K → Bool) where
   -- what becomes of an item of the key k
-  abbrev pub IsGrouped : Option (Group K A) → K → A → Made (Group K A) (Option E) E → Option (Group K A) → Type 0
-  IsGrouped held k x made q = (v : Put (Vec A Global) E) × Puts from (joined eq held k) x v × Makes (group_by eq held (Ok (k, v))) made q
+  abbrev pub IsGrouped : Option (Group K A) → K → A → Emitted (Group K A) (Option E) E → Option (Group K A) → Type 0
+  IsGrouped held k x emitted q = (v : Put (Vec A Global) E) × Puts from (joined eq held k) x v × IsTransition (group_by eq held (Ok (k, v))) emitted q
 
   pub grouped_same : (g : Group K A) (k : K) (x : A) (w : Vec A Global) → eq g.0 k ≡ true → Grown (Some g.1) x w → IsGrouped (Some g) k x None (Some (g.0, w))
-  grouped_same g k x w is grown = (Ok w, subst (λ b. Puts from (cond b (Some g.1) None) x (Ok w)) (sym is) grown, subst (λ b. Makes {E = E} (group_at g k w b) None (Some (g.0, w))) (sym is) (refl, refl))
+  grouped_same g k x w is grown = (Ok w, subst (λ b. Puts from (cond b (Some g.1) None) x (Ok w)) (sym is) grown, subst (λ b. IsTransition {E = E} (group_at g k w b) None (Some (g.0, w))) (sym is) (refl, refl))
 
   -- the group has the same items, and comes before the failure
-  pub grouped_same_refused : (g : Group K A) (k : K) (x : A) (w : Vec A Global) (refused : AllocError) (e : E) (taken : Option (Group K A)) (made : Made (Group K A) (Option E) E) (q : Option (Group K A)) → eq g.0 k ≡ true → NoRoom (Some g.1) × (vec_items w ≡ vec_items g.1) → from refused e → taken ≡ Some (g.0, w) → made ≡ before_stop taken (Some e) → q ≡ None → IsGrouped (Some g) k x made q
-  grouped_same_refused g k x w refused e taken made q is kept because at before none = (Err (Some w, e), subst (λ b. Puts from (cond b (Some g.1) None) x (Err (Some w, e))) (sym is) ((refused, because), kept.0, kept.1), (before ∙ ap (λ v. before_stop v (Some e)) at, none))
+  pub grouped_same_refused : (g : Group K A) (k : K) (x : A) (w : Vec A Global) (refused : AllocError) (e : E) (taken : Option (Group K A)) (emitted : Emitted (Group K A) (Option E) E) (q : Option (Group K A)) → eq g.0 k ≡ true → NoRoom (Some g.1) × (vec_items w ≡ vec_items g.1) → from refused e → taken ≡ Some (g.0, w) → emitted ≡ before_stop taken (Some e) → q ≡ None → IsGrouped (Some g) k x emitted q
+  grouped_same_refused g k x w refused e taken emitted q is kept because at before none = (Err (Some w, e), subst (λ b. Puts from (cond b (Some g.1) None) x (Err (Some w, e))) (sym is) ((refused, because), kept.0, kept.1), (before ∙ ap (λ v. before_stop v (Some e)) at, none))
 
-  pub grouped_other : (g : Group K A) (k : K) (x : A) (w : Vec A Global) (whole : Group K A) (made : Made (Group K A) (Option E) E) (q : Option (Group K A)) → eq g.0 k ≡ false → Grown None x w → whole ≡ g → made ≡ one_made (item whole) → q ≡ Some (k, w) → IsGrouped (Some g) k x made q
-  grouped_other g k x w whole made q is grown same yields then = (Ok w, subst (λ b. Puts from (cond b (Some g.1) None) x (Ok w)) (sym is) grown, subst (λ b. Makes (group_at g k w b) made q) (sym is) (rw (yields, same) refl, then))
+  pub grouped_other : (g : Group K A) (k : K) (x : A) (w : Vec A Global) (whole : Group K A) (emitted : Emitted (Group K A) (Option E) E) (q : Option (Group K A)) → eq g.0 k ≡ false → Grown None x w → whole ≡ g → emitted ≡ one_emitted (item whole) → q ≡ Some (k, w) → IsGrouped (Some g) k x emitted q
+  grouped_other g k x w whole emitted q is grown same yields then = (Ok w, subst (λ b. Puts from (cond b (Some g.1) None) x (Ok w)) (sym is) grown, subst (λ b. IsTransition (group_at g k w b) emitted q) (sym is) (rw (yields, same) refl, then))
 
   pub grouped_first : (k : K) (x : A) (w : Vec A Global) (q : Option (Group K A)) → Grown None x w → q ≡ Some (k, w) → IsGrouped None k x None q
   grouped_first k x w q grown then = (Ok w, grown, (refl, then))
@@ -51,8 +51,8 @@ module _ {A K E : Type 0} (from : AllocError → E → Type 0) (eq : K → K →
   group_kept_of_none (Some g) = refl
 
   -- the item was to begin a group
-  pub grouped_refused : (held : Option (Group K A)) (k : K) (x : A) (refused : AllocError) (e : E) (taken : Option (Group K A)) (made : Made (Group K A) (Option E) E) (q : Option (Group K A)) → joined eq held k ≡ None → from refused e → taken ≡ held → made ≡ before_stop taken (Some e) → q ≡ None → IsGrouped held k x made q
-  grouped_refused held k x refused e taken made q begins because at before none = (Err (None, e), subst (λ into. Puts {A = A} from into x (Err (None, e))) (sym begins) ((refused, because), tt, tt), (before ∙ ap (λ v. before_stop v (Some e)) (at ∙ sym (group_kept_of_none held)), none))
+  pub grouped_refused : (held : Option (Group K A)) (k : K) (x : A) (refused : AllocError) (e : E) (taken : Option (Group K A)) (emitted : Emitted (Group K A) (Option E) E) (q : Option (Group K A)) → joined eq held k ≡ None → from refused e → taken ≡ held → emitted ≡ before_stop taken (Some e) → q ≡ None → IsGrouped held k x emitted q
+  grouped_refused held k x refused e taken emitted q begins because at before none = (Err (None, e), subst (λ into. Puts {A = A} from into x (Err (None, e))) (sym begins) ((refused, because), tt, tt), (before ∙ ap (λ v. before_stop v (Some e)) (at ∙ sym (group_kept_of_none held)), none))
 
   pub none_joined_where_differ : (g : Group K A) (k : K) → eq g.0 k ≡ false → joined eq (Some g) k ≡ None
   none_joined_where_differ g k is = ap (λ b. cond b (Some g.1) None) is
@@ -66,11 +66,11 @@ module _ {F A K E : Type 0} (from : AllocError → E → Type 0) (eq : K → K �
   abbrev put_of : Option (K × List A) × A → KeyedPut K (List A) E
   put_of q = put_by_key eq h q.0 q.1 (h q.1)
 
-  abbrev Alike : Making (Option (Group K A)) (Group K A) (Option E) E → Making (Option (K × List A)) (K × List A) (Option E) E → Type 0
+  abbrev Alike : Transition (Option (Group K A)) (Group K A) (Option E) E → Transition (Option (K × List A)) (K × List A) (Option E) E → Type 0
   Alike t u = MadeAlike (puts_by_key from eq g) (chunk_by_plan eq) chunk_by_stops put_of (chunk_by_plan eq) chunk_by_stops MadeGroup from f HeldAlike t u
 
-  abbrev Refused : Made (Group K A) (Option E) E → Type 0
-  Refused made = RefusalAfterHeld (puts_by_key from eq g) (chunk_by_plan eq) chunk_by_stops put_of (chunk_by_plan eq) chunk_by_stops MadeGroup from f HeldAlike made
+  abbrev Refused : Emitted (Group K A) (Option E) E → Type 0
+  Refused emitted = RefusalAfterHeld (puts_by_key from eq g) (chunk_by_plan eq) chunk_by_stops put_of (chunk_by_plan eq) chunk_by_stops MadeGroup from f HeldAlike emitted
 
   group_at_alike : (p : Group K A) (xs : List A) (k : K) (x : A) (w : Vec A Global) (same : Bool) → vec_items p.1 ≡ xs → Grown (cond same (Some p.1) None) x w → Alike (group_at p k w same) (group_made eq h (p.0, xs) x k same)
   group_at_alike p xs k x w true is grown = ((refl, subst (λ (zs : List A). vec_items w ≡ zs ++ x ∷ []) is grown), tt)

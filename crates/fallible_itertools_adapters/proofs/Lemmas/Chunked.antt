@@ -7,7 +7,7 @@ use Rattle.fallible_iterator.specs.Lists.{items}
 use Rattle.fallible_itertools_adapters.specs.Adjacent.{AdjacentItems}
 use Rattle.fallible_itertools_adapters.specs.Batch.{put_last}
 use Rattle.fallible_itertools_adapters.specs.Chunks.{BatchesOf, BatchesUpTo, batch_at, batches_joined, chunked, chunks_plan, chunks_stops}
-use Rattle.fallible_itertools_adapters.specs.Staged.{as_function, made_first, plan_does, staged}
+use Rattle.fallible_itertools_adapters.specs.Staged.{as_function, emitted_first, plan_does, staged}
 use Rattle.fallible_itertools_adapters.specs.Staging.{stop_comes}
 use Rattle.fallible_itertools_adapters.proofs.Lemmas.Adjacent.{EachNext, HoldsOfNext, adjacent_items_of_each_next}
 
@@ -18,7 +18,7 @@ module _ {A E : Type 0} (n : ℕ) where
 
   -- the same, where xs are held with the last item: too few, or a whole batch
   abbrev pub chunked_at : List A → Bool → List (Result A E) → List (Result (List A) E)
-  chunked_at xs few l = made_first stop_comes (batch_at n xs few).0 (staged stop_comes (plan_does (as_function (λ q. put_last q.0 q.1)) (chunks_plan length) chunks_stops) ((batch_at {E = E} n xs few).1, tt) l)
+  chunked_at xs few l = emitted_first stop_comes (batch_at n xs few).0 (staged stop_comes (plan_does (as_function (λ q. put_last q.0 q.1)) (chunks_plan length) chunks_stops) ((batch_at {E = E} n xs few).1, tt) l)
 
 module _ {A : Type 0} where
   -- the items of the batch that is held

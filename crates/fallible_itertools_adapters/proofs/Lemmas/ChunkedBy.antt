@@ -9,8 +9,8 @@ use Rattle.fallible_itertools_adapters.specs.Adjacent.{HasKey, IsGroup}
 use Rattle.fallible_itertools_adapters.specs.Batch.{put_last}
 use Rattle.fallible_itertools_adapters.specs.ChunkBy.{chunk_by_plan, chunk_by_stops, chunked_by, group_at, group_by, put_by_key}
 use Rattle.fallible_itertools_adapters.specs.Chunks.{batches_joined}
-use Rattle.fallible_itertools_adapters.specs.Plan.{Making}
-use Rattle.fallible_itertools_adapters.specs.Staged.{as_function, made_first, plan_does, staged}
+use Rattle.fallible_itertools_adapters.specs.Plan.{Transition}
+use Rattle.fallible_itertools_adapters.specs.Staged.{as_function, emitted_first, plan_does, staged}
 use Rattle.fallible_itertools_adapters.specs.Staging.{stop_comes}
 
 module _ {A K E : Type 0} (eq : K → K → Bool) (h : A → Result K E) where
@@ -19,8 +19,8 @@ module _ {A K E : Type 0} (eq : K → K → Bool) (h : A → Result K E) where
   grouped_from held l = staged stop_comes (plan_does (as_function (λ q. put_by_key eq h q.0 q.1 (h q.1))) (chunk_by_plan eq) chunk_by_stops) (held, tt) l
 
   -- the same, where this comes of the next item
-  abbrev grouped_then : Making (Option (K × List A)) (K × List A) (Option E) E → List (Result A E) → List (Result (K × List A) E)
-  grouped_then t l = made_first stop_comes t.0 (staged stop_comes (plan_does (as_function (λ q. put_by_key eq h q.0 q.1 (h q.1))) (chunk_by_plan eq) chunk_by_stops) (t.1, tt) l)
+  abbrev grouped_then : Transition (Option (K × List A)) (K × List A) (Option E) E → List (Result A E) → List (Result (K × List A) E)
+  grouped_then t l = emitted_first stop_comes t.0 (staged stop_comes (plan_does (as_function (λ q. put_by_key eq h q.0 q.1 (h q.1))) (chunk_by_plan eq) chunk_by_stops) (t.1, tt) l)
 
   -- where v is the key of the next item x
   abbrev pub grouped_at : Option (K × List A) → A → Result K E → List (Result A E) → List (Result (K × List A) E)
@@ -31,8 +31,8 @@ module _ {A K E : Type 0} (eq : K → K → Bool) (h : A → Result K E) where
   group_or g true more other = more
   group_or g false more other = Ok g ∷ other
 
-  -- what is made of that item, and what is held then
-  abbrev pub group_made : K × List A → A → K → Bool → Making (Option (K × List A)) (K × List A) (Option E) E
+  -- what is emitted at that item, and what is held then
+  abbrev pub group_made : K × List A → A → K → Bool → Transition (Option (K × List A)) (K × List A) (Option E) E
   group_made g x k true = group_at g k (g.1 ++ x ∷ []) true
   group_made g x k false = group_at g k (x ∷ []) false
 

@@ -10,8 +10,8 @@ use Rattle.fallible_iterator.proofs.Lemmas.Making.{lists_made_seen}
 use Rattle.fallible_itertools_adapters.specs.Batch.{Grown, GrownTo, NoRoom, Put, SameHeld, held_items, kept_of, put_last}
 use Rattle.fallible_itertools_adapters.specs.BeforeStop.{before_stop}
 use Rattle.fallible_itertools_adapters.specs.Chunks.{batch_at, batch_by, chunked, chunks_contract, chunks_parts, chunks_plan, chunks_stops, puts, vec_count}
-use Rattle.fallible_itertools_adapters.specs.Plan.{Makes, Making, plan_item, plan_meets}
-use Rattle.fallible_itertools_adapters.specs.Staging.{Made, one_made}
+use Rattle.fallible_itertools_adapters.specs.Plan.{IsTransition, Transition, plan_item, plan_meets}
+use Rattle.fallible_itertools_adapters.specs.Staging.{Emitted, one_emitted}
 use Rattle.fallible_itertools_adapters.proofs.Lemmas.BeforeStop.{end_before_stop}
 use Rattle.fallible_itertools_adapters.proofs.Lemmas.Chunked.{chunked_from_is_never_nil}
 use Rattle.fallible_itertools_adapters.proofs.Lemmas.StagedMade.{HeldMade, MadeAlike, PlansAlike, RefusalAfterHeld, before_stop_made, gives_made_plan}
@@ -23,34 +23,34 @@ use Rattle.fallible_itertools_adapters.specs.declared.chunks.Chunks.{Chunks}
 -- ---- what becomes of an item
 
 module _ {A E : Type 0} (from : AllocError → E → Type 0) where
-  abbrev IsPut : (ℕ × Option (Vec A Global)) × Unit {0} → A → Made (Vec A Global) (Option E) E → (ℕ × Option (Vec A Global)) × Unit {0} → Type 0
-  IsPut p x made q = plan_item (puts from) (chunks_plan vec_count) chunks_stops p x made q
+  abbrev IsPut : (ℕ × Option (Vec A Global)) × Unit {0} → A → Emitted (Vec A Global) (Option E) E → (ℕ × Option (Vec A Global)) × Unit {0} → Type 0
+  IsPut p x emitted q = plan_item (puts from) (chunks_plan vec_count) chunks_stops p x emitted q
 
   pub put_of_too_few : (n : ℕ) (held left : Option (Vec A Global)) (u : Unit {0}) (x : A) (count : ℕ) → GrownTo held x left count → count < n → IsPut ((n, held), u) x None ((n, left), u)
   put_of_too_few n held None u x count grown few = absurd grown
-  put_of_too_few n held (Some w) u x count (grown, is) few = (Ok w, grown, subst (λ b. Makes {E = E} (batch_at n w b) None (n, Some w)) (sym (lt-ltb (vec_count w) n (subst (λ k. k < n) is few))) (refl, refl))
+  put_of_too_few n held (Some w) u x count (grown, is) few = (Ok w, grown, subst (λ b. IsTransition {E = E} (batch_at n w b) None (n, Some w)) (sym (lt-ltb (vec_count w) n (subst (λ k. k < n) is few))) (refl, refl))
 
-  pub put_of_whole : (n : ℕ) (held left after : Option (Vec A Global)) (u : Unit {0}) (x : A) (count : ℕ) (whole : Vec A Global) (made : Made (Vec A Global) (Option E) E) → GrownTo held x left count → n ≤ count → left ≡ Some whole → made ≡ one_made (item whole) → after ≡ None → IsPut ((n, held), u) x made ((n, after), u)
-  put_of_whole n held None after u x count whole made grown full same is none = absurd grown
-  put_of_whole n held (Some w) after u x count whole made (grown, counts) full same is none = let at : w ≡ whole = cc in (Ok w, grown, subst (λ b. Makes {E = E} (batch_at n w b) made (n, after)) (sym (le-ltb (vec_count w) n (subst (λ k. n ≤ k) counts full))) (rw (is, at) refl, rw none refl))
+  pub put_of_whole : (n : ℕ) (held left after : Option (Vec A Global)) (u : Unit {0}) (x : A) (count : ℕ) (whole : Vec A Global) (emitted : Emitted (Vec A Global) (Option E) E) → GrownTo held x left count → n ≤ count → left ≡ Some whole → emitted ≡ one_emitted (item whole) → after ≡ None → IsPut ((n, held), u) x emitted ((n, after), u)
+  put_of_whole n held None after u x count whole emitted grown full same is none = absurd grown
+  put_of_whole n held (Some w) after u x count whole emitted (grown, counts) full same is none = let at : w ≡ whole = cc in (Ok w, grown, subst (λ b. IsTransition {E = E} (batch_at n w b) emitted (n, after)) (sym (le-ltb (vec_count w) n (subst (λ k. n ≤ k) counts full))) (rw (is, at) refl, rw none refl))
 
   kept_where_same : (held kept : Option (Vec A Global)) → SameHeld held kept → kept_of held kept ≡ kept
   kept_where_same None None w = refl
   kept_where_same None (Some v) w = absurd w
   kept_where_same (Some v) kept w = refl
 
-  pub put_of_refused : (n : ℕ) (held kept taken after : Option (Vec A Global)) (u : Unit {0}) (x : A) (refused : AllocError) (e : E) (made : Made (Vec A Global) (Option E) E) → NoRoom held × SameHeld held kept → from refused e → taken ≡ kept → made ≡ before_stop taken (Some e) → after ≡ None → IsPut ((n, held), u) x made ((n, after), u)
-  put_of_refused n held kept taken after u x refused e made w because same is none = (Err (kept, e), ((refused, because), w.0, w.1), (is ∙ ap (λ v. before_stop v (Some e)) (same ∙ sym (kept_where_same held kept w.1)), ap (λ v. (n, v)) none))
+  pub put_of_refused : (n : ℕ) (held kept taken after : Option (Vec A Global)) (u : Unit {0}) (x : A) (refused : AllocError) (e : E) (emitted : Emitted (Vec A Global) (Option E) E) → NoRoom held × SameHeld held kept → from refused e → taken ≡ kept → emitted ≡ before_stop taken (Some e) → after ≡ None → IsPut ((n, held), u) x emitted ((n, after), u)
+  put_of_refused n held kept taken after u x refused e emitted w because same is none = (Err (kept, e), ((refused, because), w.0, w.1), (is ∙ ap (λ v. before_stop v (Some e)) (same ∙ sym (kept_where_same held kept w.1)), ap (λ v. (n, v)) none))
 
--- ---- what makes nothing
+-- ---- where nothing is emitted
 
 module _ {A E : Type 0} (from : AllocError → E → Type 0) where
   -- how many items the batch that is held takes yet
   abbrev pub room_of : (ℕ × Option (Vec A Global)) × Unit {0} → ℕ
   room_of p = p.0.0 - length (held_items p.0.1)
 
-  abbrev FillsWhereNone : ℕ × Option (Vec A Global) → Made (Vec A Global) (Option E) E → ℕ × Option (Vec A Global) → Type 0
-  FillsWhereNone p made q = made ≡ None → q.0 - length (held_items q.1) < p.0 - length (held_items p.1)
+  abbrev FillsWhereNone : ℕ × Option (Vec A Global) → Emitted (Vec A Global) (Option E) E → ℕ × Option (Vec A Global) → Type 0
+  FillsWhereNone p emitted q = emitted ≡ None → q.0 - length (held_items q.1) < p.0 - length (held_items p.1)
 
   before_stop_makes_some : (held : Option (Vec A Global)) (stop : Option E) → before_stop held stop ≡ None → ⊥
   before_stop_makes_some None stop is = cc
@@ -64,10 +64,10 @@ module _ {A E : Type 0} (from : AllocError → E → Type 0) where
   put_fills p x (Ok w) grown = batch_at_fills p x w (ltb (vec_count w) p.0) refl grown
   put_fills p x (Err (kept, e)) w = λ none. absurd (before_stop_makes_some (kept_of p.1 kept) (Some e) none)
 
-  pub room_shrinks_where_none_made : (p q : (ℕ × Option (Vec A Global)) × Unit {0}) (a : Answered A E) → plan_meets (puts from) (chunks_plan vec_count) chunks_stops p a None q → room_of q < room_of p
-  room_shrinks_where_none_made p q (Ok (Some x)) w = let k = put_fills p.0 x w.0 w.1 (sym w.2.0) in rw w.2.1 k
-  room_shrinks_where_none_made p q (Ok None) w = absurd (before_stop_makes_some p.0.1 None (sym w.0.0))
-  room_shrinks_where_none_made p q (Err e) w = absurd (before_stop_makes_some p.0.1 (Some e) (sym w.0.0))
+  pub room_shrinks_where_none_emitted : (p q : (ℕ × Option (Vec A Global)) × Unit {0}) (a : Answered A E) → plan_meets (puts from) (chunks_plan vec_count) chunks_stops p a None q → room_of q < room_of p
+  room_shrinks_where_none_emitted p q (Ok (Some x)) w = let k = put_fills p.0 x w.0 w.1 (sym w.2.0) in rw w.2.1 k
+  room_shrinks_where_none_emitted p q (Ok None) w = absurd (before_stop_makes_some p.0.1 None (sym w.0.0))
+  room_shrinks_where_none_emitted p q (Err e) w = absurd (before_stop_makes_some p.0.1 (Some e) (sym w.0.0))
 
 -- ---- what it lists
 
@@ -83,7 +83,7 @@ module _ {A E : Type 0} (from : AllocError → E → Type 0) where
   abbrev put_of : Option (List A) × A → Put (List A) E
   put_of q = put_last q.0 q.1
 
-  abbrev Alike : Making (ℕ × Option (Vec A Global)) (Vec A Global) (Option E) E → Making (ℕ × Option (List A)) (List A) (Option E) E → Type 0
+  abbrev Alike : Transition (ℕ × Option (Vec A Global)) (Vec A Global) (Option E) E → Transition (ℕ × Option (List A)) (List A) (Option E) E → Type 0
   Alike t u = MadeAlike (puts from) (chunks_plan vec_count) chunks_stops put_of (chunks_plan length) chunks_stops batch_made from tt HeldAlike t u
 
   batch_at_alike : (n : ℕ) (w : Vec A Global) (ys : List A) (few : Bool) → vec_items w ≡ ys → Alike (batch_at n w few) (batch_at n ys few)
@@ -99,8 +99,8 @@ module _ {A E : Type 0} (from : AllocError → E → Type 0) where
   grown_alike (n, Some v) (m, None) x w at grown = absurd at.1
   grown_alike (n, Some v) (m, Some xs) x w at grown = batch_put_alike n m w (xs ++ x ∷ []) at.0 (subst (λ (zs : List A). vec_items w ≡ zs ++ x ∷ []) at.1 grown)
 
-  abbrev Refused : Made (Vec A Global) (Option E) E → Type 0
-  Refused made = RefusalAfterHeld (puts from) (chunks_plan vec_count) chunks_stops put_of (chunks_plan length) chunks_stops batch_made from tt HeldAlike made
+  abbrev Refused : Emitted (Vec A Global) (Option E) E → Type 0
+  Refused emitted = RefusalAfterHeld (puts from) (chunks_plan vec_count) chunks_stops put_of (chunks_plan length) chunks_stops batch_made from tt HeldAlike emitted
 
   put_alike : (h : ℕ × Option (Vec A Global)) (k : ℕ × Option (List A)) (x : A) (put : Put (Vec A Global) E) → HeldAlike h k → puts from tt (h.1, x) put tt → Refused (batch_by vec_count h put).0 ⊎ Alike (batch_by vec_count h put) (batch_by length k (put_last k.1 x))
   put_alike h k x (Ok w) at grown = inr (grown_alike h k x w at grown)

@@ -2,7 +2,7 @@
 use Rattle.std.specs.Prelude.{◌≡◌, ℕ, ◌+◌, ◌-◌, ◌*◌, ◌/◌, ◌≤◌, ◌<◌, ⊤, suc, max, cond, leb, ltb, Bool, true, false, Option, Some, None, Ok, Err, [], ◌∷◌, length, vec_items}
 use Rattle.std.proofs.Common.{refl, sym, ap, subst, arith, length-append, ◌∙◌}
 use Rattle.std.proofs.lemmas.Bool.{leb-false, ltb-true, ltb-false}
-use Rattle.std.proofs.Math.Nat.{div-lt_iff_lt-mul, div-le_self, suc-mul}
+use Rattle.std.proofs.Math.Nat.{div-lt_iff_lt-mul, suc-mul}
 use Rattle.fallible_iterator.specs.Contract.{Contract, parts_as}
 use Rattle.fallible_iterator.specs.Hints.{fitting_sum}
 use Rattle.fallible_iterator.proofs.Lemmas.Hints.Joining.{if_some_fitting_sum_at_least_both}
@@ -10,10 +10,10 @@ use Rattle.fallible_itertools_adapters.specs.Batch.{Grown, Put, Puts, kept_of}
 use Rattle.fallible_itertools_adapters.specs.BeforeStop.{HintsWhereHeld, before_stop, held_one}
 use Rattle.fallible_itertools_adapters.specs.Chunks.{batch_at, batch_by, batch_held, begun, chunks_contract, chunks_due, chunks_parts, chunks_plan, chunks_source, chunks_stops, puts, room_left, vec_count}
 use Rattle.fallible_itertools_adapters.specs.Laws.Chunks.{is_stage_chunks}
-use Rattle.fallible_itertools_adapters.specs.Plan.{Makes, Making, plan_meets}
-use Rattle.fallible_itertools_adapters.specs.Staging.{Made, stop_comes}
+use Rattle.fallible_itertools_adapters.specs.Plan.{IsTransition, Transition, plan_meets}
+use Rattle.fallible_itertools_adapters.specs.Staging.{Emitted, stop_comes}
 use Rattle.fallible_itertools_adapters.proofs.Lemmas.BeforeStop.{hints_where_held_by_makes}
-use Rattle.fallible_itertools_adapters.proofs.Lemmas.StagingHints.{MadeFew, MakesNoFewer, makes_at_most_items_and_held}
+use Rattle.fallible_itertools_adapters.proofs.Lemmas.StagingHints.{EmittedFew, MakesNoFewer, makes_at_most_items_and_held}
 use Rattle.std.specs.declared.vec.Vec.{Vec}
 use Rattle.std.specs.declared.alloc.Global.{Global}
 use Rattle.std.specs.declared.alloc.AllocError.{AllocError}
@@ -28,14 +28,6 @@ begun_cond_at_most n room k m false is few = let more : room < k = leb-false k r
 -- where the items fit into the room and into m batches of n, they begin at most m
 begun_at_most : (n room k m : ℕ) → k ≤ room + m * max n 1 → begun n room k ≤ m
 begun_at_most n room k m few = begun_cond_at_most n room k m (leb k room) refl few
-
-begun_cond_less : (n room k : ℕ) (b : Bool) → leb k room ≡ b → 1 ≤ room → cond b 0 (1 + (k - 1 - room) / max n 1) ≤ k - 1
-begun_cond_less n room k true is some = omega arith
-begun_cond_less n room k false is some = let more : room < k = leb-false k room is in omega (arith, more, div-le_self (k - 1 - room) (max n 1))
-
--- fewer batches are begun than there are items, where one item goes into another
-pub begun_less : (n room k : ℕ) → 1 ≤ room → begun n room k ≤ k - 1
-begun_less n room k some = begun_cond_less n room k (leb k room) refl some
 
 module _ {A E : Type 0} (from : AllocError → E → Type 0) where
   -- so many items are enough for m batches and no more, with the one that is held
@@ -53,15 +45,15 @@ module _ {A E : Type 0} (from : AllocError → E → Type 0) where
       subst (λ (j : ℕ). low ≤ j * max n 1) (sym at) (omega (arith, one, more, fewer, few))
   enough_begun_where_left_out n low m (Some v) x w is fewer (k, at, few) = let one : length (vec_items w) ≡ length (vec_items v) + 1 = ap length is ∙ length-append (vec_items v) (x ∷ []) in (k, at, omega (arith, one, fewer, few))
 
-  few_of_batch_at : (h : ℕ × Option (Vec A Global)) (x : A) (w : Vec A Global) (few : Bool) (low : ℕ) → ltb (vec_count w) h.0 ≡ few → Grown h.1 x w → MadeFew stop_comes (batch_at {E = E} h.0 w few).0 (λ n. EnoughBegun h.0 (batch_at {E = E} h.0 w few).1.1 (low - 1) n) (λ n. EnoughBegun h.0 h.1 low n)
+  few_of_batch_at : (h : ℕ × Option (Vec A Global)) (x : A) (w : Vec A Global) (few : Bool) (low : ℕ) → ltb (vec_count w) h.0 ≡ few → Grown h.1 x w → EmittedFew stop_comes (batch_at {E = E} h.0 w few).0 (λ n. EnoughBegun h.0 (batch_at {E = E} h.0 w few).1.1 (low - 1) n) (λ n. EnoughBegun h.0 h.1 low n)
   few_of_batch_at h x w true low is grown = λ n after. enough_begun_where_left_out h.0 low n h.1 x w grown (ltb-true (vec_count w) h.0 is) after
   few_of_batch_at h x w false low is grown = λ n after. enough_begun_where_kept h.0 low n h.1 x w grown (ltb-false (vec_count w) h.0 is) after
 
-  few_before_failure : (held : Option (Vec A Global)) (e : E) (after before : ℕ → Type 0) → MadeFew stop_comes (before_stop held (Some e)) after before
+  few_before_failure : (held : Option (Vec A Global)) (e : E) (after before : ℕ → Type 0) → EmittedFew stop_comes (before_stop held (Some e)) after before
   few_before_failure None e after before = tt
   few_before_failure (Some v) e after before = tt
 
-  few_of_put : (h : ℕ × Option (Vec A Global)) (x : A) (put : Put (Vec A Global) E) (low : ℕ) → Puts from h.1 x put → MadeFew stop_comes (batch_by vec_count h put).0 (λ n. EnoughBegun h.0 (batch_by vec_count h put).1.1 (low - 1) n) (λ n. EnoughBegun h.0 h.1 low n)
+  few_of_put : (h : ℕ × Option (Vec A Global)) (x : A) (put : Put (Vec A Global) E) (low : ℕ) → Puts from h.1 x put → EmittedFew stop_comes (batch_by vec_count h put).0 (λ n. EnoughBegun h.0 (batch_by vec_count h put).1.1 (low - 1) n) (λ n. EnoughBegun h.0 h.1 low n)
   few_of_put h x (Ok w) low grown = few_of_batch_at h x w (ltb (vec_count w) h.0) low refl grown
   few_of_put h x (Err (kept, e)) low w = few_before_failure (kept_of h.1 kept) e _ _
 
@@ -73,21 +65,21 @@ module _ {A E : Type 0} (from : AllocError → E → Type 0) where
       size_at h w true = refl
       size_at h w false = refl
 
-  few_at_end : (n : ℕ) (held : Option (Vec A Global)) (after : ℕ → Type 0) → MadeFew {E = E} stop_comes (before_stop held None) after (λ m. EnoughBegun n held 0 m)
+  few_at_end : (n : ℕ) (held : Option (Vec A Global)) (after : ℕ → Type 0) → EmittedFew {E = E} stop_comes (before_stop held None) after (λ m. EnoughBegun n held 0 m)
   few_at_end n None after = omega arith
   few_at_end n (Some v) after = (0, refl, omega arith)
 
   abbrev Few : (ℕ × Option (Vec A Global)) × Unit {0} → ℕ → ℕ → Type 0
   Few p low m = EnoughBegun p.0.0 p.0.1 low m
 
-  few_of_making : (h : ℕ × Option (Vec A Global)) (t : Making (ℕ × Option (Vec A Global)) (Vec A Global) (Option E) E) (made : Made (Vec A Global) (Option E) E) (k : ℕ × Option (Vec A Global)) (low i : ℕ) → Makes t made k → t.1.0 ≡ h.0 → MadeFew stop_comes t.0 (λ n. EnoughBegun h.0 t.1.1 i n) (λ n. EnoughBegun h.0 h.1 low n) → MadeFew stop_comes made (λ n. EnoughBegun k.0 k.1 i n) (λ n. EnoughBegun h.0 h.1 low n)
-  few_of_making h t made k low i w same few = subst (λ m. MadeFew stop_comes m (λ n. EnoughBegun k.0 k.1 i n) (λ n. EnoughBegun h.0 h.1 low n)) (sym w.0) (subst (λ (j : ℕ × Option (Vec A Global)). MadeFew stop_comes t.0 (λ n. EnoughBegun j.0 j.1 i n) (λ n. EnoughBegun h.0 h.1 low n)) (sym w.1) (subst (λ (j : ℕ). MadeFew stop_comes t.0 (λ n. EnoughBegun j t.1.1 i n) (λ n. EnoughBegun h.0 h.1 low n)) (sym same) few))
+  few_of_transition : (h : ℕ × Option (Vec A Global)) (t : Transition (ℕ × Option (Vec A Global)) (Vec A Global) (Option E) E) (emitted : Emitted (Vec A Global) (Option E) E) (k : ℕ × Option (Vec A Global)) (low i : ℕ) → IsTransition t emitted k → t.1.0 ≡ h.0 → EmittedFew stop_comes t.0 (λ n. EnoughBegun h.0 t.1.1 i n) (λ n. EnoughBegun h.0 h.1 low n) → EmittedFew stop_comes emitted (λ n. EnoughBegun k.0 k.1 i n) (λ n. EnoughBegun h.0 h.1 low n)
+  few_of_transition h t emitted k low i w same few = subst (λ m. EmittedFew stop_comes m (λ n. EnoughBegun k.0 k.1 i n) (λ n. EnoughBegun h.0 h.1 low n)) (sym w.0) (subst (λ (j : ℕ × Option (Vec A Global)). EmittedFew stop_comes t.0 (λ n. EnoughBegun j.0 j.1 i n) (λ n. EnoughBegun h.0 h.1 low n)) (sym w.1) (subst (λ (j : ℕ). EmittedFew stop_comes t.0 (λ n. EnoughBegun j t.1.1 i n) (λ n. EnoughBegun h.0 h.1 low n)) (sym same) few))
 
   chunks_make_no_fewer : MakesNoFewer stop_comes (plan_meets (puts from) (chunks_plan vec_count) chunks_stops) Few
   chunks_make_no_fewer = record {
-    at_item = λ p x made q low w. few_of_making p.0 (batch_by vec_count p.0 w.0) made q.0 low (low - 1) w.2 (size_of_put p.0 w.0) (few_of_put p.0 x w.0 low w.1);
-    at_end = λ p made q w. few_of_making p.0 (chunks_stops p.0 None) made q.0 0 0 w.0 refl (few_at_end p.0.0 p.0.1 _);
-    at_failure = λ p e made q low w. few_of_making p.0 (chunks_stops p.0 (Some e)) made q.0 low 0 w.0 refl (few_before_failure p.0.1 e _ _);
+    at_item = λ p x emitted q low w. few_of_transition p.0 (batch_by vec_count p.0 w.0) emitted q.0 low (low - 1) w.2 (size_of_put p.0 w.0) (few_of_put p.0 x w.0 low w.1);
+    at_end = λ p emitted q w. few_of_transition p.0 (chunks_stops p.0 None) emitted q.0 0 0 w.0 refl (few_at_end p.0.0 p.0.1 _);
+    at_failure = λ p e emitted q low w. few_of_transition p.0 (chunks_stops p.0 (Some e)) emitted q.0 low 0 w.0 refl (few_before_failure p.0.1 e _ _);
   }
 
   held_one_and_begun_at_most : (n low m : ℕ) (held : Option (Vec A Global)) → EnoughBegun n held low m → held_one held + begun n (room_left n held) low ≤ m

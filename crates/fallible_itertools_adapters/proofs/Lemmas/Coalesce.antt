@@ -11,7 +11,7 @@ use Rattle.fallible_itertools_adapters.specs.BeforeStop.{HintsWhereHeld, held_on
 use Rattle.fallible_itertools_adapters.specs.Coalesce.{KeepsApart, OneOrBoth, coalesce_call, coalesce_contract, coalesce_due, coalesce_parts, coalesce_plan, coalesce_source, coalesce_takes, coalesced, coalesced_by}
 use Rattle.fallible_itertools_adapters.specs.Dedup.{dedup_stops}
 use Rattle.fallible_itertools_adapters.specs.Laws.Coalesce.{coalesce_plan_buffers}
-use Rattle.fallible_itertools_adapters.specs.Plan.{Making, plan_can}
+use Rattle.fallible_itertools_adapters.specs.Plan.{Transition, plan_can}
 use Rattle.fallible_itertools_adapters.specs.Staged.{as_function, followed}
 use Rattle.fallible_itertools_adapters.specs.Staging.{stop_comes}
 use Rattle.fallible_itertools_adapters.proofs.Lemmas.BeforeStop.{Apart, adjacent_items_apart, end_before_stop, hints_where_one_held, parted_by_failure}
@@ -19,43 +19,13 @@ use Rattle.fallible_itertools_adapters.proofs.Lemmas.Staged.{gives_plan}
 use Rattle.fallible_itertools_adapters.specs.declared.coalesce.Coalesce.{Coalesce}
 
 module _ {A E : Type 0} (h : A → A → OneOrBoth A E) where
-  -- ---- its equations
-
-  pub coalesced_of_none : coalesced h [] ≡ []
-  unfolding coalesced
-  coalesced_of_none = refl
-
-  pub coalesced_of_one : (y : A) → coalesced h (Ok y ∷ []) ≡ Ok y ∷ []
-  unfolding coalesced
-  coalesced_of_one y = refl
-
-  pub coalesced_of_merged : (y x z : A) (l : List (Result A E)) → h y x ≡ Ok (Ok z) → coalesced h (Ok y ∷ Ok x ∷ l) ≡ coalesced h (Ok z ∷ l)
-  unfolding coalesced
-  coalesced_of_merged y x z l is = rw is refl
-
-  pub coalesced_of_both : (y x a b : A) (l : List (Result A E)) → h y x ≡ Ok (Err (a, b)) → coalesced h (Ok y ∷ Ok x ∷ l) ≡ Ok a ∷ coalesced h (Ok b ∷ l)
-  unfolding coalesced
-  coalesced_of_both y x a b l is = rw is refl
-
-  pub coalesced_where_failed : (y x : A) (e : E) (l : List (Result A E)) → h y x ≡ Err e → coalesced h (Ok y ∷ Ok x ∷ l) ≡ Err e ∷ coalesced h l
-  unfolding coalesced
-  coalesced_where_failed y x e l is = rw is refl
-
-  pub coalesced_of_failure : (e : E) (l : List (Result A E)) → coalesced h (Err e ∷ l) ≡ Err e ∷ coalesced h l
-  unfolding coalesced
-  coalesced_of_failure e l = refl
-
-  pub coalesced_before_failure : (y : A) (e : E) (l : List (Result A E)) → coalesced h (Ok y ∷ Err e ∷ l) ≡ Ok y ∷ Err e ∷ coalesced h l
-  unfolding coalesced
-  coalesced_before_failure y e l = refl
-
   -- ---- what it lists
 
   abbrev on_both : A × A → OneOrBoth A E
   on_both both = h both.0 both.1
 
-  abbrev made_of : Option A → A → Making (Option A × Unit {0}) A (Option E) E
-  made_of held x = followed (as_function on_both) (coalesce_plan held x) tt
+  abbrev emitted_of : Option A → A → Transition (Option A × Unit {0}) A (Option E) E
+  emitted_of held x = followed (as_function on_both) (coalesce_plan held x) tt
 
   pub coalesced_in_parts : (a : List (Result A E)) (e : E) (b : List (Result A E)) → coalesced h (a ++ Err e ∷ b) ≡ coalesced h a ++ Err e ∷ coalesced h b
   unfolding coalesced
@@ -77,7 +47,7 @@ module _ {A E : Type 0} (h : A → A → OneOrBoth A E) where
     unfolding coalesced
     adjacent_coalesced_unmerged l = adjacent_items_apart on_both coalesce_plan (λ held. held) (λ held. None) StaysApart (λ held. ⊤) at_item (λ held x good. tt) (λ held. tt) l None tt
       where
-        at_item : (held : Option A) (x : A) → ⊤ → Apart StaysApart held (made_of held x).0 (made_of held x).1.0
+        at_item : (held : Option A) (x : A) → ⊤ → Apart StaysApart held (emitted_of held x).0 (emitted_of held x).1.0
         at_item None x good = λ z after. absurd after
         at_item (Some y) x good = coalesced_by_apart y x (h y x) refl
 

@@ -7,8 +7,6 @@ use Rattle.fallible_itertools_adapters.specs.Dedup.{deduped}
 use Rattle.fallible_itertools_adapters.specs.DedupBy.{deduped_by}
 use Rattle.fallible_itertools_adapters.specs.RunCounts.{deduped_by_with_count, deduped_with_count, first_once_more, one_more}
 use Rattle.fallible_itertools_adapters.proofs.Lemmas.ChunkedBy.{group_or, grouped_at_next, grouped_from}
-use Rattle.fallible_itertools_adapters.proofs.Lemmas.Dedup.{deduped_before_failure, deduped_of_equal, deduped_of_failure, deduped_of_none, deduped_of_one, deduped_of_others}
-use Rattle.fallible_itertools_adapters.proofs.Lemmas.DedupBy.{deduped_by_before_failure, deduped_by_of_failure, deduped_by_of_none, deduped_by_of_one, deduped_by_of_others, deduped_by_of_same, deduped_by_where_failed}
 use Rattle.fallible_itertools_adapters.proofs.Lemmas.RunCounts.{counted_before_failure, counted_first, counted_from, counted_of_failed, counted_of_failure, counted_of_none, counted_of_one, counted_of_other, counted_of_same}
 
 -- ---- without the numbers
@@ -69,14 +67,15 @@ module _ {A E : Type 0} (h : A → A → Result Bool E) where
 
 module _ {A E : Type 0} (h : A → A → Result Bool E) where
   deduped_by_lists_firsts : ListsFirsts h (deduped_by h)
+  unfolding deduped_by
   deduped_by_lists_firsts = record {
-    none = deduped_by_of_none h;
-    one = deduped_by_of_one h;
-    same = deduped_by_of_same h;
-    other = deduped_by_of_others h;
-    failed = deduped_by_where_failed h;
-    failure = deduped_by_of_failure h;
-    before_failure = deduped_by_before_failure h;
+    none = refl;
+    one = λ x. refl;
+    same = λ y x l is. rw is refl;
+    other = λ y x l is. rw is refl;
+    failed = λ y x e l is. rw is refl;
+    failure = λ e l. refl;
+    before_failure = λ y e l. refl;
   }
 
   pub items_of_deduped_by_with_count : (l : List (Result A E)) → mapped (λ p. Ok p.1) (deduped_by_with_count h l) ≡ deduped_by h l
@@ -84,14 +83,15 @@ module _ {A E : Type 0} (h : A → A → Result Bool E) where
 
 module _ {A E : Type 0} (eq : A → A → Bool) where
   deduped_lists_firsts : ListsFirsts {E = E} (λ y x. Ok (eq y x)) (deduped eq)
+  unfolding deduped
   deduped_lists_firsts = record {
-    none = deduped_of_none E eq;
-    one = deduped_of_one E eq;
-    same = λ y x l is. deduped_of_equal E eq y x l cc;
-    other = λ y x l is. deduped_of_others E eq y x l cc;
+    none = refl;
+    one = λ x. refl;
+    same = λ y x l is. let same : eq y x ≡ true = cc in rw same refl;
+    other = λ y x l is. let other : eq y x ≡ false = cc in rw other refl;
     failed = λ y x e l is. absurd cc;
-    failure = deduped_of_failure E eq;
-    before_failure = deduped_before_failure E eq;
+    failure = λ e l. refl;
+    before_failure = λ y e l. refl;
   }
 
   pub items_of_deduped_with_count : (l : List (Result A E)) → mapped (λ p. Ok p.1) (deduped_with_count eq l) ≡ deduped eq l

@@ -8,7 +8,7 @@ use Rattle.fallible_itertools_adapters.specs.Adjacent.{AdjacentItems}
 use Rattle.fallible_itertools_adapters.specs.BeforeStop.{HintsWhereHeld, held_one}
 use Rattle.fallible_itertools_adapters.specs.Dedup.{dedup_contract, dedup_due, dedup_parts, dedup_plan, dedup_source, dedup_stops, deduped, unless_same}
 use Rattle.fallible_itertools_adapters.specs.Laws.Dedup.{dedup_plan_buffers}
-use Rattle.fallible_itertools_adapters.specs.Plan.{Making, calls_nothing}
+use Rattle.fallible_itertools_adapters.specs.Plan.{Transition, calls_nothing}
 use Rattle.fallible_itertools_adapters.specs.Staged.{as_function, followed}
 use Rattle.fallible_itertools_adapters.specs.Staging.{stop_comes}
 use Rattle.fallible_itertools_adapters.proofs.Lemmas.BeforeStop.{Apart, adjacent_items_apart, end_before_stop, hints_where_one_held, parted_by_failure}
@@ -16,40 +16,14 @@ use Rattle.fallible_itertools_adapters.proofs.Lemmas.Staged.{gives_plan}
 use Rattle.fallible_itertools_adapters.specs.declared.dedup.Dedup.{Dedup}
 
 module _ {A : Type 0} (E : Type 0) (eq : A → A → Bool) where
-  -- ---- its equations
-
-  pub deduped_of_none : deduped eq {E = E} [] ≡ []
-  unfolding deduped
-  deduped_of_none = refl
-
-  pub deduped_of_one : (y : A) → deduped eq {E = E} (Ok y ∷ []) ≡ Ok y ∷ []
-  unfolding deduped
-  deduped_of_one y = refl
-
-  pub deduped_of_equal : (y x : A) (l : List (Result A E)) → eq y x ≡ true → deduped eq (Ok y ∷ Ok x ∷ l) ≡ deduped eq (Ok y ∷ l)
-  unfolding deduped
-  deduped_of_equal y x l is = rw is refl
-
-  pub deduped_of_others : (y x : A) (l : List (Result A E)) → eq y x ≡ false → deduped eq (Ok y ∷ Ok x ∷ l) ≡ Ok y ∷ deduped eq (Ok x ∷ l)
-  unfolding deduped
-  deduped_of_others y x l is = rw is refl
-
-  pub deduped_of_failure : (e : E) (l : List (Result A E)) → deduped eq (Err e ∷ l) ≡ Err e ∷ deduped eq l
-  unfolding deduped
-  deduped_of_failure e l = refl
-
-  pub deduped_before_failure : (y : A) (e : E) (l : List (Result A E)) → deduped eq (Ok y ∷ Err e ∷ l) ≡ Ok y ∷ Err e ∷ deduped eq l
-  unfolding deduped
-  deduped_before_failure y e l = refl
-
   -- ---- what it lists
 
   pub deduped_in_parts : (a : List (Result A E)) (e : E) (b : List (Result A E)) → deduped eq (a ++ Err e ∷ b) ≡ deduped eq a ++ Err e ∷ deduped eq b
   unfolding deduped
   deduped_in_parts a e b = parted_by_failure (λ u. u) (dedup_plan eq) (λ held. held) (λ held. None) None (λ held. refl) held_one (dedup_plan_buffers E eq) None a e b
 
-  abbrev made_of : Option A → A → Making (Option A × Unit {0}) A (Option E) E
-  made_of held x = followed (as_function (λ u. u)) (dedup_plan eq held x) tt
+  abbrev emitted_of : Option A → A → Transition (Option A × Unit {0}) A (Option E) E
+  emitted_of held x = followed (as_function (λ u. u)) (dedup_plan eq held x) tt
 
   unless_same_apart : (y x : A) (b : Bool) → eq y x ≡ b → Apart (λ x y. eq x y ≡ false) (Some y) (unless_same {E = E} y x b).0 (unless_same {E = E} y x b).1
   unless_same_apart y x true is = λ z after. after
@@ -59,7 +33,7 @@ module _ {A : Type 0} (E : Type 0) (eq : A → A → Bool) where
   unfolding deduped
   deduped_differ l = adjacent_items_apart (λ u. u) (dedup_plan eq) (λ held. held) (λ held. None) (λ x y. eq x y ≡ false) (λ held. ⊤) at_item (λ held x good. tt) (λ held. tt) l None tt
     where
-      at_item : (held : Option A) (x : A) → ⊤ → Apart (λ x y. eq x y ≡ false) held (made_of held x).0 (made_of held x).1.0
+      at_item : (held : Option A) (x : A) → ⊤ → Apart (λ x y. eq x y ≡ false) held (emitted_of held x).0 (emitted_of held x).1.0
       at_item None x good = λ z after. absurd after
       at_item (Some y) x good = unless_same_apart y x (eq y x) refl
 

@@ -12,7 +12,7 @@ use Rattle.fallible_itertools_adapters.specs.BeforeStop.{HintsWhereHeld, held_on
 use Rattle.fallible_itertools_adapters.specs.Dedup.{dedup_stops}
 use Rattle.fallible_itertools_adapters.specs.DedupBy.{dedup_by_contract, dedup_by_due, dedup_by_parts, dedup_by_plan, dedup_by_source, deduped_by, same_by, same_call, same_takes}
 use Rattle.fallible_itertools_adapters.specs.Laws.DedupBy.{dedup_by_plan_buffers}
-use Rattle.fallible_itertools_adapters.specs.Plan.{Making, plan_can}
+use Rattle.fallible_itertools_adapters.specs.Plan.{Transition, plan_can}
 use Rattle.fallible_itertools_adapters.specs.Staged.{as_function, followed}
 use Rattle.fallible_itertools_adapters.specs.Staging.{stop_comes}
 use Rattle.fallible_itertools_adapters.proofs.Lemmas.BeforeStop.{Apart, adjacent_items_apart, end_before_stop, hints_where_one_held, parted_by_failure}
@@ -20,43 +20,13 @@ use Rattle.fallible_itertools_adapters.proofs.Lemmas.Staged.{gives_plan}
 use Rattle.fallible_itertools_adapters.specs.declared.dedup_by.DedupBy.{DedupBy}
 
 module _ {A E : Type 0} (h : A → A → Result Bool E) where
-  -- ---- its equations
-
-  pub deduped_by_of_none : deduped_by h [] ≡ []
-  unfolding deduped_by
-  deduped_by_of_none = refl
-
-  pub deduped_by_of_one : (y : A) → deduped_by h (Ok y ∷ []) ≡ Ok y ∷ []
-  unfolding deduped_by
-  deduped_by_of_one y = refl
-
-  pub deduped_by_of_same : (y x : A) (l : List (Result A E)) → h y x ≡ Ok true → deduped_by h (Ok y ∷ Ok x ∷ l) ≡ deduped_by h (Ok y ∷ l)
-  unfolding deduped_by
-  deduped_by_of_same y x l is = rw is refl
-
-  pub deduped_by_of_others : (y x : A) (l : List (Result A E)) → h y x ≡ Ok false → deduped_by h (Ok y ∷ Ok x ∷ l) ≡ Ok y ∷ deduped_by h (Ok x ∷ l)
-  unfolding deduped_by
-  deduped_by_of_others y x l is = rw is refl
-
-  pub deduped_by_where_failed : (y x : A) (e : E) (l : List (Result A E)) → h y x ≡ Err e → deduped_by h (Ok y ∷ Ok x ∷ l) ≡ Ok y ∷ Err e ∷ deduped_by h l
-  unfolding deduped_by
-  deduped_by_where_failed y x e l is = rw is refl
-
-  pub deduped_by_of_failure : (e : E) (l : List (Result A E)) → deduped_by h (Err e ∷ l) ≡ Err e ∷ deduped_by h l
-  unfolding deduped_by
-  deduped_by_of_failure e l = refl
-
-  pub deduped_by_before_failure : (y : A) (e : E) (l : List (Result A E)) → deduped_by h (Ok y ∷ Err e ∷ l) ≡ Ok y ∷ Err e ∷ deduped_by h l
-  unfolding deduped_by
-  deduped_by_before_failure y e l = refl
-
   -- ---- what it lists
 
   abbrev on_both : A × A → Result Bool E
   on_both both = h both.0 both.1
 
-  abbrev made_of : Option A → A → Making (Option A × Unit {0}) A (Option E) E
-  made_of held x = followed (as_function on_both) (dedup_by_plan held x) tt
+  abbrev emitted_of : Option A → A → Transition (Option A × Unit {0}) A (Option E) E
+  emitted_of held x = followed (as_function on_both) (dedup_by_plan held x) tt
 
   pub deduped_by_in_parts : (a : List (Result A E)) (e : E) (b : List (Result A E)) → deduped_by h (a ++ Err e ∷ b) ≡ deduped_by h a ++ Err e ∷ deduped_by h b
   unfolding deduped_by
@@ -74,7 +44,7 @@ module _ {A E : Type 0} (h : A → A → Result Bool E) where
   unfolding deduped_by
   adjacent_deduped_by_differ l = adjacent_items_apart on_both dedup_by_plan (λ held. held) (λ held. None) FoundToDiffer (λ held. ⊤) at_item (λ held x good. tt) (λ held. tt) l None tt
     where
-      at_item : (held : Option A) (x : A) → ⊤ → Apart FoundToDiffer held (made_of held x).0 (made_of held x).1.0
+      at_item : (held : Option A) (x : A) → ⊤ → Apart FoundToDiffer held (emitted_of held x).0 (emitted_of held x).1.0
       at_item None x good = λ z after. absurd after
       at_item (Some y) x good = same_by_apart y x (h y x) refl
 

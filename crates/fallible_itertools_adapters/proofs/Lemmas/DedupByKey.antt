@@ -13,43 +13,13 @@ use Rattle.fallible_itertools_adapters.specs.DedupByKey.{dedup_by_key_contract, 
 use Rattle.fallible_itertools_adapters.specs.Laws.DedupByKey.{dedup_key_plan_buffers, held_one_of_keyed}
 use Rattle.fallible_itertools_adapters.specs.Plan.{plan_can}
 use Rattle.fallible_itertools_adapters.specs.Staged.{as_function}
-use Rattle.fallible_itertools_adapters.specs.Staging.{Made, MayMeet, stop_comes}
+use Rattle.fallible_itertools_adapters.specs.Staging.{Emitted, MayMeet, stop_comes}
 use Rattle.fallible_itertools_adapters.proofs.Lemmas.BeforeStop.{Apart, adjacent_items_apart, end_before_stop, hints_where_one_held, parted_by_failure}
 use Rattle.fallible_itertools_adapters.proofs.Lemmas.Plan.{plan_can_where_callable}
 use Rattle.fallible_itertools_adapters.proofs.Lemmas.Staged.{gives_plan}
 use Rattle.fallible_itertools_adapters.specs.declared.dedup_by_key.DedupByKey.{DedupByKey}
 
 module _ {A K E : Type 0} (eq : K → K → Bool) (h : A → Result K E) where
-  -- ---- its equations
-
-  pub deduped_by_key_of_none : deduped_by_key eq h [] ≡ []
-  unfolding deduped_by_key
-  deduped_by_key_of_none = refl
-
-  pub deduped_by_key_of_one : (y : A) (k : K) → h y ≡ Ok k → deduped_by_key eq h (Ok y ∷ []) ≡ Ok y ∷ []
-  unfolding deduped_by_key
-  deduped_by_key_of_one y k is = rw is refl
-
-  pub deduped_by_key_of_equal : (y x : A) (k j : K) (l : List (Result A E)) → h y ≡ Ok k → h x ≡ Ok j → eq k j ≡ true → deduped_by_key eq h (Ok y ∷ Ok x ∷ l) ≡ deduped_by_key eq h (Ok y ∷ l)
-  unfolding deduped_by_key
-  deduped_by_key_of_equal y x k j l is also equal = rw is (rw also (rw equal refl))
-
-  pub deduped_by_key_of_others : (y x : A) (k j : K) (l : List (Result A E)) → h y ≡ Ok k → h x ≡ Ok j → eq k j ≡ false → deduped_by_key eq h (Ok y ∷ Ok x ∷ l) ≡ Ok y ∷ deduped_by_key eq h (Ok x ∷ l)
-  unfolding deduped_by_key
-  deduped_by_key_of_others y x k j l is also differ = rw is (rw also (rw differ refl))
-
-  pub deduped_by_key_where_failed : (x : A) (e : E) (l : List (Result A E)) → h x ≡ Err e → deduped_by_key eq h (Ok x ∷ l) ≡ Err e ∷ deduped_by_key eq h l
-  unfolding deduped_by_key
-  deduped_by_key_where_failed x e l is = rw is refl
-
-  pub deduped_by_key_where_next_failed : (y x : A) (k : K) (e : E) (l : List (Result A E)) → h y ≡ Ok k → h x ≡ Err e → deduped_by_key eq h (Ok y ∷ Ok x ∷ l) ≡ Ok y ∷ Err e ∷ deduped_by_key eq h l
-  unfolding deduped_by_key
-  deduped_by_key_where_next_failed y x k e l is fails = rw is (rw fails refl)
-
-  pub deduped_by_key_of_failure : (e : E) (l : List (Result A E)) → deduped_by_key eq h (Err e ∷ l) ≡ Err e ∷ deduped_by_key eq h l
-  unfolding deduped_by_key
-  deduped_by_key_of_failure e l = refl
-
   -- ---- what it lists
 
   pub deduped_by_key_in_parts : (a : List (Result A E)) (e : E) (b : List (Result A E)) → deduped_by_key eq h (a ++ Err e ∷ b) ≡ deduped_by_key eq h a ++ Err e ∷ deduped_by_key eq h b
@@ -65,8 +35,8 @@ module _ {A K E : Type 0} (eq : K → K → Bool) (h : A → Result K E) where
   IsKeyed None = ⊤
   IsKeyed (Some p) = h p.1 ≡ Ok p.0
 
-  abbrev ApartHere : Option (K × A) → Made A (Option E) E → Option (K × A) → Type 0
-  ApartHere held made k = Apart Differ (keyed_item held) made (keyed_item k)
+  abbrev ApartHere : Option (K × A) → Emitted A (Option E) E → Option (K × A) → Type 0
+  ApartHere held emitted k = Apart Differ (keyed_item held) emitted (keyed_item k)
 
   unless_same_key_apart : (p : K × A) (x : A) (k : K) (b : Bool) → eq p.0 k ≡ b → h p.1 ≡ Ok p.0 → h x ≡ Ok k → ApartHere (Some p) (unless_same_key eq p (k, x) b).0 (unless_same_key eq {E = E} p (k, x) b).1 × IsKeyed (unless_same_key eq {E = E} p (k, x) b).1
   unless_same_key_apart p x k true is keyed also = ((λ z after. after), keyed)

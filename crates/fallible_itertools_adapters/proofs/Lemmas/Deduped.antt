@@ -6,17 +6,17 @@ use Rattle.fallible_iterator.specs.Traces.{Answered, end}
 use Rattle.fallible_itertools_adapters.specs.ChunkBy.{chunked_by}
 use Rattle.fallible_itertools_adapters.specs.Dedup.{dedup_plan, dedup_stops, deduped, unless_same}
 use Rattle.fallible_itertools_adapters.specs.DedupByKey.{dedup_key_plan, dedup_key_stops, deduped_by_key, keyed_by, unless_same_key}
-use Rattle.fallible_itertools_adapters.specs.Plan.{Making}
-use Rattle.fallible_itertools_adapters.specs.Staged.{as_function, made_first, plan_does, staged}
-use Rattle.fallible_itertools_adapters.specs.Staging.{Made, stop_comes}
+use Rattle.fallible_itertools_adapters.specs.Plan.{Transition}
+use Rattle.fallible_itertools_adapters.specs.Staged.{as_function, emitted_first, plan_does, staged}
+use Rattle.fallible_itertools_adapters.specs.Staging.{Emitted, stop_comes}
 use Rattle.fallible_itertools_adapters.proofs.Lemmas.ChunkedBy.{group_or, grouped_at, grouped_at_next, grouped_from}
 
 -- ---- two stages that make the same
 
-module _ {L Y X E P Q : Type 0} (comes : L → Option (Answered Y E)) (f : P → Answered X E → Made Y L E × P) (g : Q → Answered X E → Made Y L E × Q) (Alike : P → Q → Type 0) (alike : (p : P) (q : Q) (a : Answered X E) → Alike p q → ((f p a).0 ≡ (g q a).0) × Alike (f p a).1 (g q a).1) where
+module _ {L Y X E P Q : Type 0} (comes : L → Option (Answered Y E)) (f : P → Answered X E → Emitted Y L E × P) (g : Q → Answered X E → Emitted Y L E × Q) (Alike : P → Q → Type 0) (alike : (p : P) (q : Q) (a : Answered X E) → Alike p q → ((f p a).0 ≡ (g q a).0) × Alike (f p a).1 (g q a).1) where
   staged_alike : (l : List (Result X E)) (p : P) (q : Q) → Alike p q → staged comes f p l ≡ staged comes g q l
-  staged_alike [] p q same = ap (λ m. made_first comes m []) (alike p q end same).0
-  staged_alike (y ∷ l) p q same = let k = alike p q (result_answer y) same in ap (λ m. made_first comes m (staged comes f (f p (result_answer y)).1 l)) k.0 ∙ ap (λ r. made_first comes (g q (result_answer y)).0 r) (staged_alike l (f p (result_answer y)).1 (g q (result_answer y)).1 k.1)
+  staged_alike [] p q same = ap (λ m. emitted_first comes m []) (alike p q end same).0
+  staged_alike (y ∷ l) p q same = let k = alike p q (result_answer y) same in ap (λ m. emitted_first comes m (staged comes f (f p (result_answer y)).1 l)) k.0 ∙ ap (λ r. emitted_first comes (g q (result_answer y)).0 r) (staged_alike l (f p (result_answer y)).1 (g q (result_answer y)).1 k.1)
 
 -- ---- by the item itself
 
@@ -26,14 +26,14 @@ as_key None = None
 as_key (Some y) = Some (y, y)
 
 module _ {A : Type 0} (E : Type 0) (eq : A → A → Bool) where
-  abbrev by_item : Option A × Unit {0} → Answered A E → Making (Option A × Unit {0}) A (Option E) E
+  abbrev by_item : Option A × Unit {0} → Answered A E → Transition (Option A × Unit {0}) A (Option E) E
   by_item = plan_does (as_function (λ u. u)) (dedup_plan eq) dedup_stops
 
-  abbrev by_own_key : Option (A × A) × Unit {0} → Answered A E → Making (Option (A × A) × Unit {0}) A (Option E) E
+  abbrev by_own_key : Option (A × A) × Unit {0} → Answered A E → Transition (Option (A × A) × Unit {0}) A (Option E) E
   by_own_key = plan_does (as_function (λ x. Ok x)) (dedup_key_plan eq) dedup_key_stops
 
   -- the same is made, and the same is held then
-  abbrev MadeAlike : Making (Option A × Unit {0}) A (Option E) E → Making (Option (A × A) × Unit {0}) A (Option E) E → Type 0
+  abbrev MadeAlike : Transition (Option A × Unit {0}) A (Option E) E → Transition (Option (A × A) × Unit {0}) A (Option E) E → Type 0
   MadeAlike s t = (s.0 ≡ t.0) × (as_key s.1.0 ≡ t.1.0)
 
   unless_same_alike : (y x : A) (b : Bool) → ((unless_same {E = E} y x b).0 ≡ (unless_same_key eq (y, y) (x, x) b).0) × (as_key (unless_same {E = E} y x b).1 ≡ (unless_same_key eq {E = E} (y, y) (x, x) b).1)
@@ -60,8 +60,8 @@ module _ {A K : Type 0} (E : Type 0) (eq : K → K → Bool) (h : A → Result K
   keyed_from held l = staged stop_comes (plan_does (as_function h) (dedup_key_plan eq) dedup_key_stops) (held, tt) l
 
   -- the same, where this comes of the next item; and where v is its key
-  abbrev keyed_then : Making (Option (K × A)) A (Option E) E → List (Result A E) → List (Result A E)
-  keyed_then t l = made_first stop_comes t.0 (keyed_from t.1 l)
+  abbrev keyed_then : Transition (Option (K × A)) A (Option E) E → List (Result A E) → List (Result A E)
+  keyed_then t l = emitted_first stop_comes t.0 (keyed_from t.1 l)
 
   abbrev keyed_at : Option (K × A) → A → Result K E → List (Result A E) → List (Result A E)
   keyed_at held x v l = keyed_then (keyed_by eq held x v) l

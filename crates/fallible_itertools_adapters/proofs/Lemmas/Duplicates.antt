@@ -10,7 +10,7 @@ use Rattle.fallible_iterator.specs.Contract.{Contract, parts_as}
 use Rattle.fallible_iterator.specs.Lists.{Lists}
 use Rattle.fallible_itertools_adapters.specs.Duplicates.{come_by, duplicates_asks, duplicates_came, duplicates_contract, duplicates_of, duplicates_parts, second_of, second_of_equal}
 use Rattle.fallible_itertools_adapters.specs.UnlessRefused.{ListsUnlessRefused}
-use Rattle.fallible_itertools_adapters.proofs.Lemmas.Sieved.{ToldOrRefused, gives_sieved}
+use Rattle.fallible_itertools_adapters.proofs.Lemmas.Sieved.{ToldOrRefused, gives_sieved_unless_refused}
 use Rattle.fallible_itertools_adapters.proofs.Lemmas.UnlessRefused.{gives_unless_refused_seen}
 use Rattle.std.specs.declared.alloc.AllocError.{AllocError}
 use Rattle.fallible_iterator.specs.Outcome.{Outcome}
@@ -62,9 +62,9 @@ module _ {A E : Type 0} (S : Type 0) (eq : A → A → Bool) (equivalence : IsEq
   pub told_of_come : (m n : HashMap A Bool S) (came : List A) (x : A) (o : Outcome A E) → HasCome m came → duplicates_asks eq from m x o n → ToldOfCame (second_of eq came x) o n
   told_of_come m n came x o has w = told_where_so_many_equal m n came x (count_by (eq x) came) o has refl (subst (λ (v : Option Bool). come_by eq from m x v o n) (has x) w)
 
-pub lists_duplicates : {I A E : Type 0} (eq : A → A → Bool) (equivalence : IsEquivalence eq) (from : AllocError → E → Type 0) (m : Contract I A E) (s : Duplicates I A E) (l : List (Result A E)) → IsEmpty (duplicates_came s) → Lists m.steps s.it l → ListsUnlessRefused ⊤ (parts_as duplicates_parts (duplicates_contract eq from m)).steps from s (duplicates_of eq l)
+pub lists_duplicates : {I A E : Type 0} (eq : A → A → Bool) (equivalence : IsEquivalence eq) (from : AllocError → E → Type 0) (m : Contract I A E) (s : Duplicates I A E) (l : List (Result A E)) → IsEmpty (duplicates_came s) → Lists m.steps s.it l → ListsUnlessRefused (parts_as duplicates_parts (duplicates_contract eq from m)).steps from s (duplicates_of eq l)
 unfolding duplicates_of
 lists_duplicates eq equivalence from m s l none i = record {
-  runs = gives_unless_refused_seen ⊤ from duplicates_parts (duplicates_contract eq from m).steps (duplicates_of eq l) s
-      (gives_sieved m.steps (duplicates_asks eq from) from ⊤ (λ n came. HasCome _ eq equivalence from n came) (second_of eq) (told_of_come _ eq equivalence from) l s.it s.came [] (λ k. ap (lookup (eq k)) none) i.runs);
+  runs = gives_unless_refused_seen from duplicates_parts (duplicates_contract eq from m).steps (duplicates_of eq l) s
+      (gives_sieved_unless_refused m.steps (duplicates_asks eq from) from ⊤ (λ n came. HasCome _ eq equivalence from n came) (second_of eq) (told_of_come _ eq equivalence from) l s.it s.came [] (λ k. ap (lookup (eq k)) none) i.runs);
 }

@@ -16,11 +16,11 @@ use Rattle.fallible_itertools_adapters.specs.IntersperseWith.{CallsMakeShown, in
 use Rattle.fallible_itertools_adapters.specs.Laws.Plan.{Always}
 use Rattle.fallible_itertools_adapters.specs.Plan.{none_held, passes, plan_can, plan_hint, plan_meets}
 use Rattle.fallible_itertools_adapters.specs.Staged.{before_rest, plan_does, staged}
-use Rattle.fallible_itertools_adapters.specs.Staging.{due_total, item_comes, items_of, made_total, stage_contract}
+use Rattle.fallible_itertools_adapters.specs.Staging.{due_total, item_comes, items_of, emitted_total, stage_contract}
 use Rattle.fallible_itertools_adapters.proofs.Lemmas.Plan.{CallsOnAsked, plan_can_where_callable}
 use Rattle.fallible_itertools_adapters.proofs.Lemmas.PlanHints.{PlanMakes, hints_as_sound_plan, passes_at_most}
 use Rattle.fallible_itertools_adapters.proofs.Lemmas.Staged.{MakesSame, gives_plan, gives_plan_until_refused, made_as_itself}
-use Rattle.fallible_itertools_adapters.proofs.Lemmas.StagingHints.{DueFew, MadeFew}
+use Rattle.fallible_itertools_adapters.proofs.Lemmas.StagingHints.{DueFew, EmittedFew}
 use Rattle.fallible_itertools_adapters.proofs.Lemmas.StagingLists.{IsAnswerMade}
 use Rattle.std.specs.declared.alloc.AllocError.{AllocError}
 use Rattle.fallible_itertools_adapters.specs.declared.intersperse.Intersperse.{Intersperse}
@@ -145,30 +145,30 @@ interspersed_items_grow came due i j le = omega (arith, le)
 
 -- what fits is itself
 fitting_above : (n i : ℕ) → i ≤ n → IfSome (fitting n) (λ m. i ≤ m)
-fitting_above n i le = cond_some_above (ltb n (2 ^ 64))
+fitting_above n i le = above_where_some (ltb n (2 ^ 64))
   where
-    cond_some_above : (b : Bool) → IfSome (cond b (Some n) None) (λ m. i ≤ m)
-    cond_some_above true = le
-    cond_some_above false = tt
+    above_where_some : (b : Bool) → IfSome (cond b (Some n) None) (λ m. i ≤ m)
+    above_where_some true = le
+    above_where_some false = tt
 
 -- how many items come of n items of the source, where none is due
 abbrev all_parted : Bool → ℕ → ℕ
 all_parted came n = n + (n - unparted came)
 
 module _ (A E : Type 0) where
-  separated_few : (x : A) (v : Result A E) (low : ℕ) → MadeFew item_comes (separated_by x v).0 (λ n. (low - 1) + ((low - 1) - 0) ≤ n) (λ n. low + (low - 0) ≤ n)
+  separated_few : (x : A) (v : Result A E) (low : ℕ) → EmittedFew item_comes (separated_by x v).0 (λ n. (low - 1) + ((low - 1) - 0) ≤ n) (λ n. low + (low - 0) ≤ n)
   separated_few x (Ok s) low = λ n after. omega (arith, after)
   separated_few x (Err e) low = tt
 
-  separated_at_most : (x : A) (v : Result A E) (n : ℕ) → made_total item_comes items_of (separated_by x v).0 + (n + (n - 0)) ≤ suc n + (suc n - 0)
+  separated_at_most : (x : A) (v : Result A E) (n : ℕ) → emitted_total item_comes items_of (separated_by x v).0 + (n + (n - 0)) ≤ suc n + (suc n - 0)
   separated_at_most x (Ok s) n = omega arith
   separated_at_most x (Err e) n = omega arith
 
-  intersperse_at_most : (came : Bool) (x : A) (n : ℕ) → Always (λ t. made_total {E = E} item_comes items_of t.0 + all_parted t.1 n ≤ all_parted came (suc n)) (intersperse_plan came x)
+  intersperse_at_most : (came : Bool) (x : A) (n : ℕ) → Always (λ t. emitted_total {E = E} item_comes items_of t.0 + all_parted t.1 n ≤ all_parted came (suc n)) (intersperse_plan came x)
   intersperse_at_most false x n = omega arith
   intersperse_at_most true x n = λ v. separated_at_most x v n
 
-  intersperse_no_fewer : (came : Bool) (x : A) (low : ℕ) → Always (λ t. MadeFew {E = E} item_comes t.0 (λ n. all_parted t.1 (low - 1) ≤ n) (λ n. all_parted came low ≤ n)) (intersperse_plan came x)
+  intersperse_no_fewer : (came : Bool) (x : A) (low : ℕ) → Always (λ t. EmittedFew {E = E} item_comes t.0 (λ n. all_parted t.1 (low - 1) ≤ n) (λ n. all_parted came low ≤ n)) (intersperse_plan came x)
   intersperse_no_fewer false x low = λ n after. omega (arith, after)
   intersperse_no_fewer true x low = λ v. separated_few x v low
 

@@ -15,7 +15,7 @@ use Rattle.fallible_itertools_adapters.specs.DedupWithCount.{are_equal, dedup_wi
 use Rattle.fallible_itertools_adapters.specs.Laws.RunCounts.{count_buffers}
 use Rattle.fallible_itertools_adapters.specs.Plan.{bounded, plan_hint, plan_meets}
 use Rattle.fallible_itertools_adapters.specs.RunCounts.{count_plan, count_stops, counted_by, deduped_by_with_count, deduped_with_count, first_once_more, one_more}
-use Rattle.fallible_itertools_adapters.specs.Staged.{as_function, calls_function, made_first, plan_does, staged}
+use Rattle.fallible_itertools_adapters.specs.Staged.{as_function, calls_function, emitted_first, plan_does, staged}
 use Rattle.fallible_itertools_adapters.specs.Staging.{stage_contract, stop_comes}
 use Rattle.fallible_itertools_adapters.proofs.Lemmas.BeforeStop.{end_before_stop, hints_where_one_held, parted_by_failure}
 use Rattle.fallible_itertools_adapters.proofs.Lemmas.Staged.{gives_plan}
@@ -34,7 +34,7 @@ module _ {A E : Type 0} (h : A → A → Result Bool E) where
 
   -- what comes of an item x before what comes of the rest, if p is held
   abbrev pub counted_first : ℕ × A → A → Result Bool E → List (Result A E) → List (Result (ℕ × A) E)
-  counted_first p x v l = made_first stop_comes (counted_by p x v).0 (counted_from (counted_by p x v).1 l)
+  counted_first p x v l = emitted_first stop_comes (counted_by p x v).0 (counted_from (counted_by p x v).1 l)
 
   counted_from_item : (p : ℕ × A) (x : A) (v : Result Bool E) (l : List (Result A E)) → h p.1 x ≡ v → counted_from (Some p) (Ok x ∷ l) ≡ counted_first p x v l
   counted_from_item p x v l is = ap (λ w. counted_first p x w l) is

@@ -4,7 +4,7 @@ use Rattle.std.specs.List.{cons_option}
 use Rattle.std.proofs.Common.{refl, sym, ap, subst, inl, inr}
 use Rattle.fallible_iterator.specs.Traces.{Answered, item, end}
 use Rattle.fallible_iterator.specs.Lists.{AlwaysGives, result_answer}
-use Rattle.fallible_iterator.specs.Making.{AnswersRefusal, IsRefusal}
+use Rattle.fallible_iterator.specs.Refusing.{AnswersRefusal, GivesUntilRefused, IsMadeOf, IsRefusal}
 use Rattle.fallible_iterator.specs.Passing.{passing_step}
 use Rattle.fallible_iterator.specs.Laws.Passing.{Passes, done, end_passes, failure_passes, keeps, refuses, closes, leaves_out, passes_of_pass_trace, pass_trace_of_passes}
 use Rattle.fallible_iterator.proofs.Lemmas.Lists.Passing.{end_of_nil, answer_is_failure_first_in_list}
@@ -30,8 +30,22 @@ module _ {I P Z A E : Type 0} (steps : I → Answered A E → I → Type 0) (ask
   abbrev Step : I × P → Answered A E → I × P → Type 0
   Step = passing_step steps asks as_answered_item
 
+  -- The answers are those of the list, in order, and then an end. An allocation failure may be in the place of any of the list's, and of the end where `at_end` holds.
   abbrev Gives : I × P → List (Result A E) → Type 0
-  Gives s l = GivesUnlessRefused at_end Step from s l
+  Gives s [] = (r : Answered A E) (t : I × P) → Step s r t → (at_end × AnswersRefusal from r) ⊎ (r ≡ end)
+  Gives s (y ∷ l) = (r : Answered A E) (t : I × P) → Step s r t → AnswersRefusal from r ⊎ ((r ≡ result_answer y) × Gives t l)
+
+  same_answer_is_made : (y : Result A E) (r : Answered A E) → r ≡ result_answer y → IsMadeOf (λ x z. z ≡ x) y r
+  same_answer_is_made (Ok x) r is = rw is refl
+  same_answer_is_made (Err d) r is = is
+
+  until_refused_where_gives : (at_end → ⊥) → (l : List (Result A E)) (s : I × P) → Gives s l → GivesUntilRefused (λ x z. z ≡ x) Step from s l
+  until_refused_where_gives never [] s a = λ r t w. elim (a r t w) [ inl f ↦ absurd (never f.0) | inr is ↦ is ]
+  until_refused_where_gives never (y ∷ l) s a = λ r t w. elim (a r t w) [ inl f ↦ inl f | inr k ↦ inr (same_answer_is_made y r k.0, until_refused_where_gives never l t k.1) ]
+
+  unless_refused_where_gives : (l : List (Result A E)) (s : I × P) → Gives s l → GivesUnlessRefused Step from s l
+  unless_refused_where_gives [] s a = λ r t w. elim (a r t w) [ inl f ↦ inl f.1 | inr is ↦ inr is ]
+  unless_refused_where_gives (y ∷ l) s a = λ r t w. elim (a r t w) [ inl f ↦ inl f | inr k ↦ inr (k.0, unless_refused_where_gives l t k.1) ]
 
   -- r is the first of the list, or an allocation failure; and so on from t
   abbrev IsFirst : List (Result A E) → Answered A E → I × P → Type 0
@@ -86,13 +100,20 @@ module _ {I P Z A E : Type 0} (steps : I → Answered A E → I → Type 0) (ask
     drawn_at_item p q r t (leaves_out {u = u} {h = h} z o step called is c) = drawn_by_call p h z o LeftOut u r (t, q) step called is (pass_trace_of_passes c)
 
   module _ (told : (p q : P) (z : Z) (x : A) (o : Outcome A E) → At p z → asks p x o q → ToldOrRefused from at_end At (takes z x) o q) where
-    pub gives_sieved : (l : List (Result A E)) (s : I) (p : P) (z : Z) → At p z → AlwaysGives steps s l → Gives (s, p) (sieved takes z l)
+    gives_sieved : (l : List (Result A E)) (s : I) (p : P) (z : Z) → At p z → AlwaysGives steps s l → Gives (s, p) (sieved takes z l)
     gives_sieved [] s p z at a = λ r t w. inr (end_of_nil a (passes_of_pass_trace w))
     gives_sieved (Err d ∷ l) s p z at a = λ r t w. let k = answer_is_failure_first_in_list d l a (passes_of_pass_trace w) in inr (k.0, gives_sieved l t.0 t.1 z (subst (λ (q : P). At q z) (sym k.1) at) k.2)
     gives_sieved (Ok x ∷ l) s p z at a = gives_where_each_is_first _ (s, p) (λ r t w. let d = drawn_at_item l x s a p t.1 r t.0 (passes_of_pass_trace w) in elim (told p d.holds z x d.outcome at d.asked) [
       | inl k ↦ first_refused (takes z x).0 _ r t (k.0, (rw k.1 at d.rest).0, k.2) k.3
       | inr k ↦ is_first_after (takes z x).0 _ (d.left, d.holds) r t (rw k.0 at d.rest) (gives_sieved l d.left d.holds (takes z x).1 k.1 d.given)
     ])
+
+    -- where none fails in the place of the end
+    pub gives_sieved_until_refused : (at_end → ⊥) → (l : List (Result A E)) (s : I) (p : P) (z : Z) → At p z → AlwaysGives steps s l → GivesUntilRefused (λ x y. y ≡ x) Step from (s, p) (sieved takes z l)
+    gives_sieved_until_refused never l s p z at a = until_refused_where_gives never (sieved takes z l) (s, p) (gives_sieved l s p z at a)
+
+    pub gives_sieved_unless_refused : (l : List (Result A E)) (s : I) (p : P) (z : Z) → At p z → AlwaysGives steps s l → GivesUnlessRefused Step from (s, p) (sieved takes z l)
+    gives_sieved_unless_refused l s p z at a = unless_refused_where_gives (sieved takes z l) (s, p) (gives_sieved l s p z at a)
 
 -- ---- two lists joined
 

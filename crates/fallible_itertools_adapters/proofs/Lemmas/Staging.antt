@@ -1,4 +1,4 @@
--- The fold of a stage: turns on what is due and on what is made are turns on the adapter's own answers.
+-- The fold of a stage: turns on what is due and on what is emitted are turns on the adapter's own answers.
 use Rattle.std.specs.Prelude.{◌≡◌, ◌<◌, ℕ, List, [], ◌∷◌, ◌++◌, map, ⊤, Option, Some, None, Ok, Err}
 use Rattle.std.specs.List.{FoldsTo}
 use Rattle.std.proofs.Common.{refl, sym, ap, subst, inl, inr}
@@ -9,9 +9,9 @@ use Rattle.fallible_iterator.specs.Passing.{IfItem}
 use Rattle.fallible_iterator.specs.Folds.{HoldsAtEachTurn, goes_on, DriveExit, Driven, TurnThrough, beside, beside_names}
 use Rattle.fallible_iterator.specs.Laws.Contract.{kept_by_draws_of_one_draw, kept_by_draws_of_no_draw, kept_by_draws_transitive}
 use Rattle.fallible_iterator.specs.Laws.Closures.{reaches_reflexive, reaches_weaken, reaches_by_call_first, is_callable_after}
-use Rattle.fallible_iterator.proofs.Lemmas.Folds.{holds_at_first_turn, holds_each_turn_after_item, driven_by_item_first, driven_end, driven_failure, driven_stop, fold_of_references_drives_values, names_kept}
+use Rattle.fallible_iterator.proofs.Lemmas.Folds.{holds_at_first_turn, holds_each_turn_after_item, driven_by_item_first, driven_end, driven_failure, driven_of_first_break, fold_of_references_drives_values, names_kept}
 use Rattle.fallible_iterator.proofs.Lemmas.Folding.{drained_by_same_steps, holds_each_turn_by_same_steps}
-use Rattle.fallible_itertools_adapters.specs.Staging.{DrawsUpTo, Made, yields, passes_over, due_comes, due_left, stage_meets, stage_step, stop_answer, MayMeet, TakesAll, IsStage, IsStop, EndsInStop, Told, DueTold, MadeTold, DueTakes, MadeTakes, Met, MetTakes, StageTurns}
+use Rattle.fallible_itertools_adapters.specs.Staging.{DrawsUpTo, Emitted, yields, passes_over, due_comes, due_left, stage_meets, stage_step, stop_answer, MayMeet, TakesAll, IsStage, IsStop, EndsInStop, Told, DueTold, EmittedTold, DueTakes, EmittedTakes, Met, MetTakes, StageTurns}
 use Rattle.fallible_itertools_adapters.specs.Laws.Staging.{may_meet_of_answer, may_meet_before_draws}
 use Rattle.std.specs.declared.ops.ControlFlow.{ControlFlow}
 use Rattle.std.specs.declared.ops.ControlFlow.TheVariants.{Continue, Break}
@@ -21,7 +21,7 @@ use Rattle.fallible_iterator.specs.Beside.{Beside}
 
 module _ {S A E C R : Type 0} (steps : S → Answered A E → S → Type 0) (turns : C → A → ControlFlow R (Unit {0}) → C → Type 0) where
   pub driven_of_told_break : (s t : S) (a : Answered A E) (why : Answered R E) (c d : C) → steps s a t → Told turns c a (Break why) d → Driven steps turns s c why t d
-  driven_of_told_break s t (Ok (Some y)) why c d step w = rw w.2 (driven_stop y step w.1)
+  driven_of_told_break s t (Ok (Some y)) why c d step w = rw w.2 (driven_of_first_break y step w.1)
   driven_of_told_break s t (Ok None) why c d step w = rw (w.0, w.1) (driven_end step)
   driven_of_told_break s t (Err e) why c d step w = rw (w.0, w.1) (driven_failure step)
 
@@ -44,9 +44,9 @@ module _ {S A E C R : Type 0} (steps : S → Answered A E → S → Type 0) (tur
     told_item_is_taken s t (Ok None) c step h = tt
     told_item_is_taken s t (Err e) c step h = tt
 
--- ---- turns on what is due, and on what is made
+-- ---- turns on what is due, and on what is emitted
 
-module _ {S P X D B L E C R : Type 0} (comes : L → Option (Answered B E)) (meets : P → Answered X D → Made B L E → P → Type 0) (steps : S → Answered X D → S → Type 0) (turns : C → B → ControlFlow R (Unit {0}) → C → Type 0) where
+module _ {S P X D B L E C R : Type 0} (comes : L → Option (Answered B E)) (meets : P → Answered X D → Emitted B L E → P → Type 0) (steps : S → Answered X D → S → Type 0) (turns : C → B → ControlFlow R (Unit {0}) → C → Type 0) where
   abbrev State : Type 0
   State = S × (P × Option L)
 
@@ -66,15 +66,15 @@ module _ {S P X D B L E C R : Type 0} (comes : L → Option (Answered B E)) (mee
   drives_on_after_due s p None c why k u z w rest = (rw w.1 at rest)
   drives_on_after_due s p (Some later) c why k u z w rest = drives_on_after_told Steps turns (s, (p, Some later)) (s, (p, None)) u (due_comes (comes later)) why c k z (refl, refl, ap (λ (l : Option L). (p, l)) (sym (none_due_left_where_told_continue later (comes later) c k w))) w rest
 
-  driven_of_made_told_break : (s t : S) (p h : P) (a : Answered X D) (made : Made B L E) (c : C) (told : Answered R E × Option L) (d : C) → steps s a t → meets p a made h → MadeTold turns comes c made (Break told) d → Driven Steps turns (s, (p, None)) c told.0 (t, (h, told.1)) d
-  driven_of_made_told_break s t p h a None c told d step called w = absurd (let e = w.0 in cc)
-  driven_of_made_told_break s t p h a (Some (b, due)) c told d step called (inl w) = drives_on_after_told Steps turns (s, (p, None)) (t, (h, due)) (t, (h, told.1)) b told.0 c w.0 d (yields a step called) w.1 (driven_of_due_told_break t h due w.0 told d w.2)
-  driven_of_made_told_break s t p h a (Some (b, due)) c told d step called (inr w) = let same : told ≡ (w.0, due) = (let e = w.2 in cc) in rw same (driven_of_told_break Steps turns (s, (p, None)) (t, (h, due)) b w.0 c d (yields a step called) w.1)
+  driven_of_emitted_told_break : (s t : S) (p h : P) (a : Answered X D) (emitted : Emitted B L E) (c : C) (told : Answered R E × Option L) (d : C) → steps s a t → meets p a emitted h → EmittedTold turns comes c emitted (Break told) d → Driven Steps turns (s, (p, None)) c told.0 (t, (h, told.1)) d
+  driven_of_emitted_told_break s t p h a None c told d step called w = absurd (let e = w.0 in cc)
+  driven_of_emitted_told_break s t p h a (Some (b, due)) c told d step called (inl w) = drives_on_after_told Steps turns (s, (p, None)) (t, (h, due)) (t, (h, told.1)) b told.0 c w.0 d (yields a step called) w.1 (driven_of_due_told_break t h due w.0 told d w.2)
+  driven_of_emitted_told_break s t p h a (Some (b, due)) c told d step called (inr w) = let same : told ≡ (w.0, due) = (let e = w.2 in cc) in rw same (driven_of_told_break Steps turns (s, (p, None)) (t, (h, due)) b w.0 c d (yields a step called) w.1)
 
-  drives_on_after_made : (s t : S) (p h : P) (a : Answered X D) (made : Made B L E) (c : C) (why : Answered R E) (k : C) (u : State) (z : C) → steps s a t → meets p a made h → MadeTold {R = R} turns comes c made (Continue tt) k → Driven Steps turns (t, (h, None)) k why u z → Driven Steps turns (s, (p, None)) c why u z
-  drives_on_after_made s t p h a None c why k u z step called w rest = drained_by_same_steps (λ r v more. passes_over a step called more) (rw w.1 at rest)
-  drives_on_after_made s t p h a (Some (b, due)) c why k u z step called (inl w) rest = drives_on_after_told Steps turns (s, (p, None)) (t, (h, due)) u b why c w.0 z (yields a step called) w.1 (drives_on_after_due t h due w.0 why k u z w.2 rest)
-  drives_on_after_made s t p h a (Some (b, due)) c why k u z step called (inr w) rest = absurd (let e = w.2 in cc)
+  drives_on_after_emitted : (s t : S) (p h : P) (a : Answered X D) (emitted : Emitted B L E) (c : C) (why : Answered R E) (k : C) (u : State) (z : C) → steps s a t → meets p a emitted h → EmittedTold {R = R} turns comes c emitted (Continue tt) k → Driven Steps turns (t, (h, None)) k why u z → Driven Steps turns (s, (p, None)) c why u z
+  drives_on_after_emitted s t p h a None c why k u z step called w rest = drained_by_same_steps (λ r v more. passes_over a step called more) (rw w.1 at rest)
+  drives_on_after_emitted s t p h a (Some (b, due)) c why k u z step called (inl w) rest = drives_on_after_told Steps turns (s, (p, None)) (t, (h, due)) u b why c w.0 z (yields a step called) w.1 (drives_on_after_due t h due w.0 why k u z w.2 rest)
+  drives_on_after_emitted s t p h a (Some (b, due)) c why k u z step called (inr w) rest = absurd (let e = w.2 in cc)
 
   module _ (Q : C → B → Type 0) where
     abbrev HoldsHere : State → C → Type 0
@@ -88,14 +88,14 @@ module _ {S P X D B L E C R : Type 0} (comes : L → Option (Answered B E)) (mee
     due_is_taken s p None c h = tt
     due_is_taken s p (Some later) c h = told_item_is_taken Steps turns Q (s, (p, Some later)) (s, (p, due_left later (comes later))) (due_comes (comes later)) c (refl, refl, refl) h
 
-    holds_after_made : (s t : S) (p h : P) (a : Answered X D) (made : Made B L E) (c k : C) → steps s a t → meets p a made h → MadeTold {R = R} turns comes c made (Continue tt) k → HoldsHere (s, (p, None)) c → HoldsHere (t, (h, None)) k
-    holds_after_made s t p h a None c k step called w holds = rw w.1 (holds_each_turn_by_same_steps (λ r v more. passes_over a step called more) holds)
-    holds_after_made s t p h a (Some (b, due)) c k step called (inl w) holds = holds_after_due t h due w.0 k w.2 (holds_after_told Steps turns Q (s, (p, None)) (t, (h, due)) b c w.0 (yields a step called) w.1 holds)
-    holds_after_made s t p h a (Some (b, due)) c k step called (inr w) holds = absurd (let e = w.2 in cc)
+    holds_after_emitted : (s t : S) (p h : P) (a : Answered X D) (emitted : Emitted B L E) (c k : C) → steps s a t → meets p a emitted h → EmittedTold {R = R} turns comes c emitted (Continue tt) k → HoldsHere (s, (p, None)) c → HoldsHere (t, (h, None)) k
+    holds_after_emitted s t p h a None c k step called w holds = rw w.1 (holds_each_turn_by_same_steps (λ r v more. passes_over a step called more) holds)
+    holds_after_emitted s t p h a (Some (b, due)) c k step called (inl w) holds = holds_after_due t h due w.0 k w.2 (holds_after_told Steps turns Q (s, (p, None)) (t, (h, due)) b c w.0 (yields a step called) w.1 holds)
+    holds_after_emitted s t p h a (Some (b, due)) c k step called (inr w) holds = absurd (let e = w.2 in cc)
 
-    made_is_taken : (s t : S) (p h : P) (a : Answered X D) (made : Made B L E) (c : C) → steps s a t → meets p a made h → HoldsHere (s, (p, None)) c → MadeTakes turns comes Q c made
-    made_is_taken s t p h a None c step called holds = tt
-    made_is_taken s t p h a (Some (b, due)) c step called holds = (told_item_is_taken Steps turns Q (s, (p, None)) (t, (h, due)) b c (yields a step called) holds, (λ d w. due_is_taken t h due d (holds_after_told Steps turns Q (s, (p, None)) (t, (h, due)) b c d (yields a step called) w holds)))
+    emitted_is_taken : (s t : S) (p h : P) (a : Answered X D) (emitted : Emitted B L E) (c : C) → steps s a t → meets p a emitted h → HoldsHere (s, (p, None)) c → EmittedTakes turns comes Q c emitted
+    emitted_is_taken s t p h a None c step called holds = tt
+    emitted_is_taken s t p h a (Some (b, due)) c step called holds = (told_item_is_taken Steps turns Q (s, (p, None)) (t, (h, due)) b c (yields a step called) holds, (λ d w. due_is_taken t h due d (holds_after_told Steps turns Q (s, (p, None)) (t, (h, due)) b c d (yields a step called) w holds)))
 
   -- ---- the source's fold
 
@@ -110,8 +110,8 @@ module _ {S P X D B L E C R : Type 0} (comes : L → Option (Answered B E)) (mee
   onward_of_yields_and_folds : (Q : C → B → Type 0) (items : List X) (s t : S) (p q : C × P) → Yields steps s items t → FoldsTo (goes_on Turns) p items q → FoldedOn Q s p t q
   onward_of_yields_and_folds Q [] s t p q ran went = rw (sym ran, sym went) (record { holds = λ h. h; driven = λ why u z h. h })
   onward_of_yields_and_folds Q (x ∷ items) s t p q ran went = let k = went.0 in let met = went.1 in let rest = onward_of_yields_and_folds Q items ran.0 t k q ran.2 went.2 in record {
-    holds = λ h. rest.holds (holds_after_made Q s ran.0 p.1 k.1 (item x) met.0 p.0 k.0 ran.1 met.1 met.2 h);
-    driven = λ why u z h. drives_on_after_made s ran.0 p.1 k.1 (item x) met.0 p.0 why k.0 u z ran.1 met.1 met.2 (rest.driven why u z h);
+    holds = λ h. rest.holds (holds_after_emitted Q s ran.0 p.1 k.1 (item x) met.0 p.0 k.0 ran.1 met.1 met.2 h);
+    driven = λ why u z h. drives_on_after_emitted s ran.0 p.1 k.1 (item x) met.0 p.0 why k.0 u z ran.1 met.1 met.2 (rest.driven why u z h);
   }
 
   -- the draws before the last one
@@ -128,9 +128,9 @@ module _ {S P X D B L E C R : Type 0} (comes : L → Option (Answered B E)) (mee
     pub step : steps before a t
     pub on : FoldedOn Q s p before k
 
-  -- what the adapter makes of that answer stops the fold
+  -- what is emitted at that answer stops the fold
   driven_where_met_breaks : (Q : C → B → Type 0) (s t : S) (p k : C × P) (a : Answered X D) (told : Answered R E × Option L) (q : C × P) → UpTo Q s p a t k → Met comes meets turns k a (Break told) q → Driven Steps turns (s, (p.1, None)) p.0 told.0 (t, (q.1, told.1)) q.0
-  driven_where_met_breaks Q s t p k a told q up met = up.on.driven told.0 (t, (q.1, told.1)) q.0 (driven_of_made_told_break up.before t k.1 q.1 a met.0 k.0 told q.0 up.step met.1 met.2)
+  driven_where_met_breaks Q s t p k a told q up met = up.on.driven told.0 (t, (q.1, told.1)) q.0 (driven_of_emitted_told_break up.before t k.1 q.1 a met.0 k.0 told q.0 up.step met.1 met.2)
 
   module _ (Q : C → B → Type 0) (s t : S) (p q : C × P) where
     up_to : (r : Answered (Answered R E × Option L) D) (w : Driven steps Turns s p r t q) → UpTo Q s p w.last t w.at.carried
@@ -162,8 +162,8 @@ module _ {S P X D B L E C R : Type 0} (comes : L → Option (Answered B E)) (mee
     driven_where_stage_turns_stop : (told : Answered R E × Option L) → Driven steps Turns s p (Ok (Some told)) t q → Driven Steps turns (s, (p.1, None)) p.0 told.0 (t, (q.1, told.1)) q.0
     driven_where_stage_turns_stop told w = stopped told w.last w.at.carried w.at.exit (up_to (Ok (Some told)) w)
 
-module _ {S P X D B L E : Type 0} (comes : L → Option (Answered B E)) (meets : P → Answered X D → Made B L E → P → Type 0) (steps : S → Answered X D → S → Type 0) where
-  -- where nothing is due, what draws make is one answer
+module _ {S P X D B L E : Type 0} (comes : L → Option (Answered B E)) (meets : P → Answered X D → Emitted B L E → P → Type 0) (steps : S → Answered X D → S → Type 0) where
+  -- where nothing is due, what is emitted at draws is one answer
   pub step_of_draws : {s t : S} {p q : P × Option L} {r : Answered B E} → p.1 ≡ None → DrawsUpTo comes meets steps s p.0 r t q → stage_step comes meets steps (s, p) r (t, q)
   step_of_draws {s = s} {t = t} {p = p} {q = q} {r = r} is drawn = subst (λ (d : Option L). stage_step comes meets steps (s, (p.0, d)) r (t, q)) (sym is) drawn
 
@@ -172,7 +172,7 @@ module _ {S P X D B L E : Type 0} (comes : L → Option (Answered B E)) (meets :
 
 -- ---- the whole fold
 
-module _ {S P X D B L E C R : Type 0} (comes : L → Option (Answered B E)) (meets : P → Answered X D → Made B L E → P → Type 0) (steps : S → Answered X D → S → Type 0) (turns : C → B → ControlFlow R (Unit {0}) → C → Type 0) where
+module _ {S P X D B L E C R : Type 0} (comes : L → Option (Answered B E)) (meets : P → Answered X D → Emitted B L E → P → Type 0) (steps : S → Answered X D → S → Type 0) (turns : C → B → ControlFlow R (Unit {0}) → C → Type 0) where
   module _ {s : S} {p : P × Option L} {c : C} where
     -- what is due stopped it
     pub fold_stops_where_due_breaks : {told : Answered R E × Option L} {d : C} → DueTold turns comes c p.1 (Break told) d → Driven (stage_step comes meets steps) turns (s, p) c told.0 (s, (p.0, told.1)) d
@@ -200,7 +200,7 @@ driven_beside {turns = turns} f c w is_f is_c = let same = names_kept beside bes
 
 -- ---- where the turn may be taken
 
-module _ {S P X D B L E C R : Type 0} {m : Contract S X D} (l : Lawful m) (comes : L → Option (Answered B E)) (meets : P → Answered X D → Made B L E → P → Type 0) (turns : C → B → ControlFlow R (Unit {0}) → C → Type 0) (takes : P → X → Type 0) (Q : C → B → Type 0) where
+module _ {S P X D B L E C R : Type 0} {m : Contract S X D} (l : Lawful m) (comes : L → Option (Answered B E)) (meets : P → Answered X D → Emitted B L E → P → Type 0) (turns : C → B → ControlFlow R (Unit {0}) → C → Type 0) (takes : P → X → Type 0) (Q : C → B → Type 0) where
   abbrev HoldsThere : S × (P × Option L) → C → Type 0
   HoldsThere s c = HoldsAtEachTurn (stage_step comes meets m.steps) (goes_on turns) Q s c
 
@@ -212,7 +212,7 @@ module _ {S P X D B L E C R : Type 0} {m : Contract S X D} (l : Lawful m) (comes
   met_takes : (s t : S) (p k : C × P) (a : Answered X D) → m.can_next s → TakesAll m meets takes s p.1 → HoldsThere (s, (p.1, None)) p.0 → UpTo comes meets m.steps turns Q s p a t k → MetTakes comes meets turns takes Q k a
   met_takes s t p k a c callable holds up = let r = kept_and_reached_by_items up.items s up.before p k c up.ran up.went in (
     callable.at k.1 a r.1 (may_meet_before_draws m s up.before r.0 a (may_meet_of_answer m up.before t a (l.kept_by_draw up.before a t r.0.can_next up.step).answer)),
-    (λ made h called. made_is_taken comes meets m.steps turns Q up.before t k.1 h a made k.0 up.step called (up.on.holds holds)),
+    (λ emitted h called. emitted_is_taken comes meets m.steps turns Q up.before t k.1 h a emitted k.0 up.step called (up.on.holds holds)),
   )
 
   -- where nothing is due
@@ -245,35 +245,35 @@ module _ {B L E C R : Type 0} (comes : L → Option (Answered B E)) (turns : C �
   stop_never_told_to_continue (Ok None) c d stop w = w
   stop_never_told_to_continue (Err e) c d stop w = w
 
-  made_stop_never_told_to_continue : (made : Made B L E) (c d : C) → EndsInStop comes made → MadeTold {R = R} turns comes c made (Continue tt) d → ⊥
-  made_stop_never_told_to_continue None c d stop w = stop
-  made_stop_never_told_to_continue (Some (a, None)) c d stop (inl w) = stop_never_told_to_continue a c w.0 stop w.1
-  made_stop_never_told_to_continue (Some (a, Some later)) c d stop (inl w) = stop_never_told_to_continue (due_comes (comes later)) w.0 d stop w.2
-  made_stop_never_told_to_continue (Some (a, due)) c d stop (inr w) = let e = w.2 in absurd cc
+  emitted_stop_never_told_to_continue : (emitted : Emitted B L E) (c d : C) → EndsInStop comes emitted → EmittedTold {R = R} turns comes c emitted (Continue tt) d → ⊥
+  emitted_stop_never_told_to_continue None c d stop w = stop
+  emitted_stop_never_told_to_continue (Some (a, None)) c d stop (inl w) = stop_never_told_to_continue a c w.0 stop w.1
+  emitted_stop_never_told_to_continue (Some (a, Some later)) c d stop (inl w) = stop_never_told_to_continue (due_comes (comes later)) w.0 d stop w.2
+  emitted_stop_never_told_to_continue (Some (a, due)) c d stop (inr w) = let e = w.2 in absurd cc
 
   stop_answer_is_stop : (X : Type 0) {D : Type 0} (stop : Option D) → IsStop {B = X} (stop_answer stop)
   stop_answer_is_stop X None = tt
   stop_answer_is_stop X (Some e) = tt
 
-  module _ {P X D : Type 0} (items : P → X → Made B L E → P → Type 0) (stops : P → Option D → Made B L E → P → Type 0) where
-    pub met_of_stop : {p q : P} (stop : Option D) {made : Made B L E} → stops p stop made q → stage_meets items stops p (stop_answer stop) made q
+  module _ {P X D : Type 0} (items : P → X → Emitted B L E → P → Type 0) (stops : P → Option D → Emitted B L E → P → Type 0) where
+    pub met_of_stop : {p q : P} (stop : Option D) {emitted : Emitted B L E} → stops p stop emitted q → stage_meets items stops p (stop_answer stop) emitted q
     met_of_stop None w = w
     met_of_stop (Some e) w = w
 
-    pub breaks_at_stop : (most : ℕ) (held : P → ℕ) → IsStage comes (stage_meets items stops) most held → {p q : P} (stop : Option D) (made : Made B L E) (c d : C) → stops p stop made q → MadeTold {R = R} turns comes c made (Continue tt) d → ⊥
-    breaks_at_stop most held is {p = p} {q = q} stop made c d called told = made_stop_never_told_to_continue made c d ((is p (stop_answer stop) made q (met_of_stop stop called)).2 (stop_answer_is_stop X stop)) told
+    pub breaks_at_stop : (most : ℕ) (held : P → ℕ) → IsStage comes (stage_meets items stops) most held → {p q : P} (stop : Option D) (emitted : Emitted B L E) (c d : C) → stops p stop emitted q → EmittedTold {R = R} turns comes c emitted (Continue tt) d → ⊥
+    breaks_at_stop most held is {p = p} {q = q} stop emitted c d called told = emitted_stop_never_told_to_continue emitted c d ((is p (stop_answer stop) emitted q (met_of_stop stop called)).2 (stop_answer_is_stop X stop)) told
 
--- ---- draws that make nothing
+-- ---- draws at which nothing is emitted
 
-module _ {S P X D B L E : Type 0} {m : Contract S X D} (l : Lawful m) (comes : L → Option (Answered B E)) (meets : P → Answered X D → Made B L E → P → Type 0) where
-  -- what made nothing was an item
-  pub one_fewer_where_none_made : (most : ℕ) (held : P → ℕ) → IsStage comes meets most held → {s t : S} {p q : P} (a : Answered X D) → m.can_next s → m.steps s a t → meets p a None q → (n : ℕ) → m.bound s n → (k : ℕ) × m.bound t k × (k < n)
-  one_fewer_where_none_made most held is {s = s} {t = t} (Ok (Some x)) c step called n b = (l.kept_by_draw s (Ok (Some x)) t c step).answer.1 n b
-  one_fewer_where_none_made most held is {p = p} {q = q} (Ok None) c step called n b = absurd ((is p (Ok None) None q called).2 tt)
-  one_fewer_where_none_made most held is {p = p} {q = q} (Err e) c step called n b = absurd ((is p (Err e) None q called).2 tt)
+module _ {S P X D B L E : Type 0} {m : Contract S X D} (l : Lawful m) (comes : L → Option (Answered B E)) (meets : P → Answered X D → Emitted B L E → P → Type 0) where
+  -- where nothing was emitted, the answer was an item
+  pub one_fewer_where_none_emitted : (most : ℕ) (held : P → ℕ) → IsStage comes meets most held → {s t : S} {p q : P} (a : Answered X D) → m.can_next s → m.steps s a t → meets p a None q → (n : ℕ) → m.bound s n → (k : ℕ) × m.bound t k × (k < n)
+  one_fewer_where_none_emitted most held is {s = s} {t = t} (Ok (Some x)) c step called n b = (l.kept_by_draw s (Ok (Some x)) t c step).answer.1 n b
+  one_fewer_where_none_emitted most held is {p = p} {q = q} (Ok None) c step called n b = absurd ((is p (Ok None) None q called).2 tt)
+  one_fewer_where_none_emitted most held is {p = p} {q = q} (Err e) c step called n b = absurd ((is p (Err e) None q called).2 tt)
 
   pub takes_at_draw : (takes : P → X → Type 0) {s t : S} {p : P} (a : Answered X D) → m.can_next s → m.steps s a t → TakesAll m meets takes s p → IfItem (takes p) a
   takes_at_draw takes {s = s} {t = t} {p = p} a c step callable = callable.at p a reaches_reflexive (may_meet_of_answer m s t a (l.kept_by_draw s a t c step).answer)
 
-  pub takes_all_after_draw : (takes : P → X → Type 0) {s t : S} {p q : P} (a : Answered X D) (made : Made B L E) → m.can_next s → m.steps s a t → meets p a made q → TakesAll m meets takes s p → TakesAll m meets takes t q
-  takes_all_after_draw takes {s = s} {t = t} {p = p} {q = q} a made c step called callable = let g = l.kept_by_draw s a t c step in is_callable_after {pre = λ h b. IfItem (takes h) b} (may_meet_before_draws m s t (kept_by_draws_of_one_draw g)) (reaches_by_call_first a made (may_meet_of_answer m s t a g.answer) called reaches_reflexive) callable
+  pub takes_all_after_draw : (takes : P → X → Type 0) {s t : S} {p q : P} (a : Answered X D) (emitted : Emitted B L E) → m.can_next s → m.steps s a t → meets p a emitted q → TakesAll m meets takes s p → TakesAll m meets takes t q
+  takes_all_after_draw takes {s = s} {t = t} {p = p} {q = q} a emitted c step called callable = let g = l.kept_by_draw s a t c step in is_callable_after {pre = λ h b. IfItem (takes h) b} (may_meet_before_draws m s t (kept_by_draws_of_one_draw g)) (reaches_by_call_first a emitted (may_meet_of_answer m s t a g.answer) called reaches_reflexive) callable

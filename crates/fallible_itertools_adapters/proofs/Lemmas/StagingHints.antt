@@ -4,11 +4,11 @@ use Rattle.std.proofs.Common.{refl, sym, ap, subst, arith, ◌∙◌}
 use Rattle.fallible_iterator.specs.Traces.{Answered, Yields, item, failure, end}
 use Rattle.fallible_iterator.specs.SoundHints.{BoundsAbove, BoundsBelow}
 use Rattle.fallible_iterator.proofs.Lemmas.Hints.Drawn.{if_some_at_least_of_smaller}
-use Rattle.fallible_itertools_adapters.specs.Staging.{DrawsUpTo, EndsInStop, IsStage, IsStop, Made, due_comes, due_left, due_total, items_of, made_total, passes_over, stage_step, yields}
+use Rattle.fallible_itertools_adapters.specs.Staging.{DrawsUpTo, EndsInStop, IsStage, IsStop, Emitted, due_comes, due_left, due_total, items_of, emitted_total, passes_over, stage_step, yields}
 use Rattle.fallible_itertools_adapters.specs.Laws.Staging.{due_total_of_due_left_is_zero}
 
 module _ {B L E : Type 0} (comes : L → Option (Answered B E)) where
-  -- What holds of the number of answers after what is due, or what is made, and before; before an end alone, and nothing is said of a failure.
+  -- What holds of the number of answers after what is due, or what is emitted, and before; before an end alone, and nothing is said of a failure.
   abbrev AnswerFew : Answered B E → (ℕ → Type 0) → (ℕ → Type 0) → Type 0
   AnswerFew (Ok (Some y)) after before = (n : ℕ) → after n → before (suc n)
   AnswerFew (Ok None) after before = before 0
@@ -18,37 +18,37 @@ module _ {B L E : Type 0} (comes : L → Option (Answered B E)) where
   DueFew None after before = (n : ℕ) → after n → before n
   DueFew (Some later) after before = AnswerFew (due_comes (comes later)) after before
 
-  abbrev pub MadeFew : Made B L E → (ℕ → Type 0) → (ℕ → Type 0) → Type 0
-  MadeFew None after before = (n : ℕ) → after n → before n
-  MadeFew (Some (Ok (Some y), due)) after before = DueFew due after (λ n. before (suc n))
-  MadeFew (Some (Ok None, due)) after before = before 0
-  MadeFew (Some (Err e, due)) after before = ⊤
+  abbrev pub EmittedFew : Emitted B L E → (ℕ → Type 0) → (ℕ → Type 0) → Type 0
+  EmittedFew None after before = (n : ℕ) → after n → before n
+  EmittedFew (Some (Ok (Some y), due)) after before = DueFew due after (λ n. before (suc n))
+  EmittedFew (Some (Ok None, due)) after before = before 0
+  EmittedFew (Some (Err e, due)) after before = ⊤
 
 pub no_items_of_stop : {X E : Type 0} (a : Answered X E) → IsStop a → items_of a ≡ 0
 no_items_of_stop (Ok (Some x)) stop = absurd stop
 no_items_of_stop (Ok None) stop = refl
 no_items_of_stop (Err e) stop = refl
 
-module _ {P X B L E : Type 0} (comes : L → Option (Answered B E)) (meets : P → Answered X E → Made B L E → P → Type 0) where
-  -- At most `most p n` items come of n items of the source, if p is held; a stop makes a stop.
+module _ {P X B L E : Type 0} (comes : L → Option (Answered B E)) (meets : P → Answered X E → Emitted B L E → P → Type 0) where
+  -- At most `most p n` items come of n items of the source, if p is held; at a stop a stop comes.
   pub record MakesAtMost (most : P → ℕ → ℕ) : Type 0 where
-    pub at_item : (p : P) (x : X) (m : Made B L E) (q : P) (n : ℕ) → meets p (item x) m q → made_total comes items_of m + most q n ≤ most p (suc n)
-    pub at_stop : (p : P) (a : Answered X E) (m : Made B L E) (q : P) → IsStop a → meets p a m q → (made_total comes items_of m ≤ most p 0) × EndsInStop comes m
+    pub at_item : (p : P) (x : X) (m : Emitted B L E) (q : P) (n : ℕ) → meets p (item x) m q → emitted_total comes items_of m + most q n ≤ most p (suc n)
+    pub at_stop : (p : P) (a : Answered X E) (m : Emitted B L E) (q : P) → IsStop a → meets p a m q → (emitted_total comes items_of m ≤ most p 0) × EndsInStop comes m
 
   -- `Few p low n` holds of each number n of items that come before an end, if p is held and at least `low` come of the source.
   pub record MakesNoFewer (Few : P → ℕ → ℕ → Type 0) : Type 0 where
-    pub at_item : (p : P) (x : X) (m : Made B L E) (q : P) (low : ℕ) → meets p (item x) m q → MadeFew comes m (λ n. Few q (low - 1) n) (λ n. Few p low n)
-    pub at_end : (p : P) (m : Made B L E) (q : P) → meets p end m q → MadeFew comes m (λ n. Few q 0 n) (λ n. Few p 0 n)
-    pub at_failure : (p : P) (e : E) (m : Made B L E) (q : P) (low : ℕ) → meets p (failure e) m q → MadeFew comes m (λ n. Few q 0 n) (λ n. Few p low n)
+    pub at_item : (p : P) (x : X) (m : Emitted B L E) (q : P) (low : ℕ) → meets p (item x) m q → EmittedFew comes m (λ n. Few q (low - 1) n) (λ n. Few p low n)
+    pub at_end : (p : P) (m : Emitted B L E) (q : P) → meets p end m q → EmittedFew comes m (λ n. Few q 0 n) (λ n. Few p 0 n)
+    pub at_failure : (p : P) (e : E) (m : Emitted B L E) (q : P) (low : ℕ) → meets p (failure e) m q → EmittedFew comes m (λ n. Few q 0 n) (λ n. Few p low n)
 
-  -- where an item makes at most one, what comes is at most that and what is held
+  -- where at an item at most one is emitted, what comes is at most that and what is held
   pub makes_at_most_items_and_held : (held : P → ℕ) → IsStage comes meets 1 held → MakesAtMost (λ p n. n + held p)
   makes_at_most_items_and_held held stage = record {
     at_item = λ p x m q n w. let k = stage p (item x) m q w in omega (arith, k.0);
     at_stop = λ p a m q stop w. let k = stage p a m q w in let none = no_items_of_stop a stop in (omega (arith, k.0, none), k.2 stop);
   }
 
-module _ {S P X B L E : Type 0} (steps : S → Answered X E → S → Type 0) (comes : L → Option (Answered B E)) (meets : P → Answered X E → Made B L E → P → Type 0) where
+module _ {S P X B L E : Type 0} (steps : S → Answered X E → S → Type 0) (comes : L → Option (Answered B E)) (meets : P → Answered X E → Emitted B L E → P → Type 0) where
   abbrev State : Type 0
   State = S × (P × Option L)
 
@@ -66,13 +66,13 @@ module _ {S P X B L E : Type 0} (steps : S → Answered X E → S → Type 0) (c
     no_item_after_due_stop y (Some later) [] s q t stop ran = refl
     no_item_after_due_stop y (Some later) (z ∷ ys) s q t stop ran = absurd (rw (sym ran.1.0) at stop)
 
-    drawn_where_made_ends_in_stop : (y : B) (due : Option L) (ys : List B) (s v : S) (p q : P) (t : State) → (made_total comes items_of (Some (item y, due)) ≤ most p 0) × EndsInStop comes (Some (item y, due)) → Yields Steps (v, (q, due)) ys t → Drawn s p (length ys + 1)
-    drawn_where_made_ends_in_stop y due ys s v p q t few ran = let none = no_item_after_due_stop y due ys v q t few.1 ran in ([], s, refl, omega (arith, few.0, none))
+    drawn_where_emitted_ends_in_stop : (y : B) (due : Option L) (ys : List B) (s v : S) (p q : P) (t : State) → (emitted_total comes items_of (Some (item y, due)) ≤ most p 0) × EndsInStop comes (Some (item y, due)) → Yields Steps (v, (q, due)) ys t → Drawn s p (length ys + 1)
+    drawn_where_emitted_ends_in_stop y due ys s v p q t few ran = let none = no_item_after_due_stop y due ys v q t few.1 ran in ([], s, refl, omega (arith, few.0, none))
 
     drawn_where_first_makes_item : (a : Answered X E) (y : B) (due : Option L) (ys : List B) (s v : S) (p q : P) (t : State) → steps s a v → meets p a (Some (item y, due)) q → Yields Steps (v, (q, due)) ys t → ((xs : List X) × (u : S) × Yields steps v xs u × (length ys ≤ due_total comes items_of due + most q (length xs))) → Drawn s p (length ys + 1)
     drawn_where_first_makes_item (Ok (Some x)) y due ys s v p q t step called ran k = let few = makes.at_item p x (Some (item y, due)) q (length k.0) called in (x ∷ k.0, k.1, (v, step, k.2), omega (arith, few, k.3))
-    drawn_where_first_makes_item (Ok None) y due ys s v p q t step called ran k = drawn_where_made_ends_in_stop y due ys s v p q t (makes.at_stop p end (Some (item y, due)) q tt called) ran
-    drawn_where_first_makes_item (Err e) y due ys s v p q t step called ran k = drawn_where_made_ends_in_stop y due ys s v p q t (makes.at_stop p (failure e) (Some (item y, due)) q tt called) ran
+    drawn_where_first_makes_item (Ok None) y due ys s v p q t step called ran k = drawn_where_emitted_ends_in_stop y due ys s v p q t (makes.at_stop p end (Some (item y, due)) q tt called) ran
+    drawn_where_first_makes_item (Err e) y due ys s v p q t step called ran k = drawn_where_emitted_ends_in_stop y due ys s v p q t (makes.at_stop p (failure e) (Some (item y, due)) q tt called) ran
 
     drawn_where_first_makes_none : (a : Answered X E) (s u : S) (p h : P) (n : ℕ) → steps s a u → meets p a None h → Drawn u h n → Drawn s p n
     drawn_where_first_makes_none (Ok (Some x)) s u p h n step called k = let few = makes.at_item p x None h (length k.0) called in (x ∷ k.0, k.1, (u, step, k.2), omega (arith, few, k.3))
@@ -97,7 +97,7 @@ module _ {S P X B L E : Type 0} (steps : S → Answered X E → S → Type 0) (c
   -- ---- below
 
   module _ (Few : P → ℕ → ℕ → Type 0) (makes : MakesNoFewer comes meets Few) where
-    lower_bound_after_answer : (a : Answered X E) (s u : S) (p q : P) (m : Made B L E) (low : ℕ) → steps s a u → BoundsBelow steps s low → meets p a m q → (j : ℕ) × BoundsBelow steps u j × MadeFew comes m (λ n. Few q j n) (λ n. Few p low n)
+    lower_bound_after_answer : (a : Answered X E) (s u : S) (p q : P) (m : Emitted B L E) (low : ℕ) → steps s a u → BoundsBelow steps s low → meets p a m q → (j : ℕ) × BoundsBelow steps u j × EmittedFew comes m (λ n. Few q j n) (λ n. Few p low n)
     lower_bound_after_answer (Ok (Some x)) s u p q m low step b called = (low - 1, (λ xs t v ran last. let k = b (x ∷ xs) t v (u, step, ran) last in omega (arith, k)), makes.at_item p x m q low called)
     lower_bound_after_answer (Ok None) s u p q m low step b called = let none = b [] s u refl step in let is : low ≡ 0 = omega (arith, none) in (0, (λ xs t v ran last. omega arith), rw is (makes.at_end p m q called))
     lower_bound_after_answer (Err e) s u p q m low step b called = (0, (λ xs t v ran last. omega arith), makes.at_failure p e m q low called)

@@ -12,15 +12,15 @@ use Rattle.fallible_iterator.specs.SoundHints.{Brackets, HintsAsSoundAs, SoundHi
 use Rattle.fallible_iterator.proofs.Lemmas.Lists.ForGood.{lists_for_good_seen}
 use Rattle.fallible_iterator.proofs.Lemmas.Lists.Passing.{lists_seen}
 use Rattle.fallible_iterator.proofs.Lemmas.Hints.Drawn.{brackets_seen, brackets_zero_where_no_item, if_some_at_least_of_smaller}
-use Rattle.fallible_itertools_adapters.specs.Laws.Staging.{parts_equal_where_made_equal}
+use Rattle.fallible_itertools_adapters.specs.Laws.Staging.{parts_equal_where_emitted_equal}
 use Rattle.fallible_itertools_adapters.specs.Plan.{HintBy, none_held, passes, plan_can, plan_hint, plan_meets}
-use Rattle.fallible_itertools_adapters.specs.Staged.{as_function, made_first, plan_does, staged}
-use Rattle.fallible_itertools_adapters.specs.Staging.{DrawsUpTo, Made, MayMeet, due_total, ends_come, items_of, made_total, passes_over, stage_contract, stage_step, yields}
+use Rattle.fallible_itertools_adapters.specs.Staged.{as_function, emitted_first, plan_does, staged}
+use Rattle.fallible_itertools_adapters.specs.Staging.{DrawsUpTo, Emitted, MayMeet, due_total, ends_come, items_of, emitted_total, passes_over, stage_contract, stage_step, yields}
 use Rattle.fallible_itertools_adapters.specs.TakeWhileInclusive.{inclusive_by, inclusive_contract, inclusive_hint, inclusive_parts, inclusive_plan, taken_while_inclusive}
 use Rattle.fallible_itertools_adapters.proofs.Lemmas.Plan.{plan_can_where_callable}
 use Rattle.fallible_itertools_adapters.proofs.Lemmas.PlanHints.{PlanMakes, hints_as_sound_plan, passes_at_most}
 use Rattle.fallible_itertools_adapters.proofs.Lemmas.Staged.{ends_for_good_where_ends_due, gives_plan}
-use Rattle.fallible_itertools_adapters.proofs.Lemmas.StagingHints.{DueFew, MadeFew}
+use Rattle.fallible_itertools_adapters.proofs.Lemmas.StagingHints.{DueFew, EmittedFew}
 use Rattle.fallible_itertools_adapters.specs.declared.take_while_inclusive.TakeWhileInclusive.{TakeWhileInclusive}
 
 -- ---- its equations
@@ -28,7 +28,7 @@ use Rattle.fallible_itertools_adapters.specs.declared.take_while_inclusive.TakeW
 module _ {X E : Type 0} (h : X → Result Bool E) where
   -- what comes of an item before what comes of the rest
   abbrev through : X → Result Bool E → List (Result X E) → List (Result X E)
-  through x v l = made_first ends_come (inclusive_by x v).0 l
+  through x v l = emitted_first ends_come (inclusive_by x v).0 l
 
   -- nothing is held
   abbrev staged_from : Unit {0} → List (Result X E) → List (Result X E)
@@ -40,7 +40,7 @@ module _ {X E : Type 0} (h : X → Result Bool E) where
 
   taken_while_inclusive_of_item : (x : X) (v : Result Bool E) (l : List (Result X E)) → h x ≡ v → taken_while_inclusive h (Ok x ∷ l) ≡ through x v (taken_while_inclusive h l)
   unfolding taken_while_inclusive
-  taken_while_inclusive_of_item x v l is = ap (λ w. made_first ends_come (inclusive_by x w).0 (staged_from (inclusive_by x w).1 l)) is ∙ held x v l
+  taken_while_inclusive_of_item x v l is = ap (λ w. emitted_first ends_come (inclusive_by x w).0 (staged_from (inclusive_by x w).1 l)) is ∙ held x v l
 
   pub taken_while_inclusive_accepted : (x : X) (l : List (Result X E)) → h x ≡ Ok true → taken_while_inclusive h (Ok x ∷ l) ≡ Ok x ∷ taken_while_inclusive h l
   taken_while_inclusive_accepted x l is = taken_while_inclusive_of_item x (Ok true) l is
@@ -68,28 +68,28 @@ lists_inclusive {it = it} m g s f h l parts acts i = lists_seen inclusive_parts 
 -- ---- what it lists, fused
 
 module _ {S F X E : Type 0} (steps : S → Answered X E → S → Type 0) (call : F → X → Result Bool E → F → Type 0) (f : F) (h : X → Result Bool E) (acts : Acts call f h) where
-  abbrev Meets : Unit {0} × F → Answered X E → Made X (Unit {0}) E → Unit {0} × F → Type 0
+  abbrev Meets : Unit {0} × F → Answered X E → Emitted X (Unit {0}) E → Unit {0} × F → Type 0
   Meets = plan_meets call inclusive_plan passes
 
   abbrev Steps : S × ((Unit {0} × F) × Option (Unit {0})) → Answered X E → S × ((Unit {0} × F) × Option (Unit {0})) → Type 0
   Steps = stage_step ends_come Meets steps
 
-  something_made : (x : X) (v : Result Bool E) → ◌≡◌ {A = Made X (Unit {0}) E} None (inclusive_by x v).0 → ⊥
-  something_made x (Ok true) is = cc
-  something_made x (Ok false) is = cc
-  something_made x (Err e) is = cc
+  something_emitted : (x : X) (v : Result Bool E) → ◌≡◌ {A = Emitted X (Unit {0}) E} None (inclusive_by x v).0 → ⊥
+  something_emitted x (Ok true) is = cc
+  something_emitted x (Ok false) is = cc
+  something_emitted x (Err e) is = cc
 
   -- what is known after a draw where an item is the first of the source's list
   abbrev AfterItem : X → Result Bool E → List (Result X E) → Answered X E → S × ((Unit {0} × F) × Option (Unit {0})) → Type 0
-  AfterItem x v l r q = ◌≡◌ {A = Made X (Unit {0}) E} (Some (r, q.1.1)) (inclusive_by x v).0 × ((q.1.0).1 ≡ f) × AlwaysGives steps q.0 l
+  AfterItem x v l r q = ◌≡◌ {A = Emitted X (Unit {0}) E} (Some (r, q.1.1)) (inclusive_by x v).0 × ((q.1.0).1 ≡ f) × AlwaysGives steps q.0 l
 
   -- what the predicate returned
-  met_item : (a : Answered X E) (x : X) (v : Result Bool E) (made : Made X (Unit {0}) E) (k : Unit {0} × F) → h x ≡ v → a ≡ item x → Meets (tt, f) a made k → (made ≡ (inclusive_by x v).0) × (k.1 ≡ f)
-  met_item a x v made k is at w = let called : Meets (tt, f) (item x) made k = subst (λ b. Meets (tt, f) b made k) at w in let d = acts x called.0 k.1 called.1 in (subst (λ u. made ≡ (inclusive_by x u).0) (d.1 ∙ is) called.2.0, d.0)
+  met_item : (a : Answered X E) (x : X) (v : Result Bool E) (emitted : Emitted X (Unit {0}) E) (k : Unit {0} × F) → h x ≡ v → a ≡ item x → Meets (tt, f) a emitted k → (emitted ≡ (inclusive_by x v).0) × (k.1 ≡ f)
+  met_item a x v emitted k is at w = let called : Meets (tt, f) (item x) emitted k = subst (λ b. Meets (tt, f) b emitted k) at w in let d = acts x called.0 k.1 called.1 in (subst (λ u. emitted ≡ (inclusive_by x u).0) (d.1 ∙ is) called.2.0, d.0)
 
   after_item : (x : X) (v : Result Bool E) (l : List (Result X E)) (s t : S) (r : Answered X E) (q : (Unit {0} × F) × Option (Unit {0})) → h x ≡ v → AlwaysGives steps s (Ok x ∷ l) → DrawsUpTo ends_come Meets steps s (tt, f) r t q → AfterItem x v l r (t, q)
   after_item x v l s t r _ is g (yields {q = k} {due = due} a step called) = let d = g a t step in let w = met_item a x v (Some (r, due)) k is d.0 called in (w.0, w.1, d.1)
-  after_item x v l s t r q is g (passes_over {u = u} {h = k} a step called rest) = absurd (something_made x v (met_item a x v None k is (g a u step).0 called).0)
+  after_item x v l s t r q is g (passes_over {u = u} {h = k} a step called rest) = absurd (something_emitted x v (met_item a x v None k is (g a u step).0 called).0)
 
   -- what `all_of` says of the first item where it is false
   rejected_or_later : (v : Result Bool E) (n : ℕ) (x : X) (rest : Result Bool E) → decided (all_pick n x) v rest ≡ Ok false → (v ≡ Ok false) ⊎ ((v ≡ Ok true) × (rest ≡ Ok false))
@@ -97,12 +97,12 @@ module _ {S F X E : Type 0} (steps : S → Answered X E → S → Type 0) (call 
   rejected_or_later (Ok false) n x rest is = inl refl
   rejected_or_later (Err e) n x rest is = absurd cc
 
-  gives_for_good_at_item : (x : X) (l k : List (Result X E)) (s : S) → AlwaysGives steps s (Ok x ∷ l) → (h x ≡ Ok false) ⊎ ((h x ≡ Ok true) × ((t : S) → AlwaysGives steps t l → GivesForGood Steps (t, ((tt, f), None)) k)) → (v : Result Bool E) → h x ≡ v → GivesForGood Steps (s, ((tt, f), None)) (made_first ends_come (inclusive_by x v).0 k)
+  gives_for_good_at_item : (x : X) (l k : List (Result X E)) (s : S) → AlwaysGives steps s (Ok x ∷ l) → (h x ≡ Ok false) ⊎ ((h x ≡ Ok true) × ((t : S) → AlwaysGives steps t l → GivesForGood Steps (t, ((tt, f), None)) k)) → (v : Result Bool E) → h x ≡ v → GivesForGood Steps (s, ((tt, f), None)) (emitted_first ends_come (inclusive_by x v).0 k)
   gives_for_good_at_item x l k s g or (Ok true) is = elim or [
     | inl rejects ↦ absurd (let no = sym is ∙ rejects in cc)
-    | inr later ↦ λ r q w. let d = after_item x (Ok true) l s q.0 r q.1 is g w in let made = parts_equal_where_made_equal d.0 in (made.0, subst (λ due. GivesForGood Steps (q.0, (q.1.0, due)) k) (sym made.1) (subst (λ c. GivesForGood Steps (q.0, ((tt, c), None)) k) (sym d.1) (later.1 q.0 d.2)))
+    | inr later ↦ λ r q w. let d = after_item x (Ok true) l s q.0 r q.1 is g w in let emitted = parts_equal_where_emitted_equal d.0 in (emitted.0, subst (λ due. GivesForGood Steps (q.0, (q.1.0, due)) k) (sym emitted.1) (subst (λ c. GivesForGood Steps (q.0, ((tt, c), None)) k) (sym d.1) (later.1 q.0 d.2)))
   ]
-  gives_for_good_at_item x l k s g or (Ok false) is = λ r q w. let d = after_item x (Ok false) l s q.0 r q.1 is g w in let made = parts_equal_where_made_equal d.0 in (made.0, subst (λ due. GivesForGood Steps (q.0, (q.1.0, due)) []) (sym made.1) (ends_for_good_where_ends_due Meets steps q.0 q.1.0 tt))
+  gives_for_good_at_item x l k s g or (Ok false) is = λ r q w. let d = after_item x (Ok false) l s q.0 r q.1 is g w in let emitted = parts_equal_where_emitted_equal d.0 in (emitted.0, subst (λ due. GivesForGood Steps (q.0, (q.1.0, due)) []) (sym emitted.1) (ends_for_good_where_ends_due Meets steps q.0 q.1.0 tt))
   gives_for_good_at_item x l k s g or (Err e) is = elim or [
     | inl rejects ↦ absurd (let no = sym is ∙ rejects in cc)
     | inr later ↦ absurd (let no = sym is ∙ later.0 in cc)
@@ -139,12 +139,12 @@ first_if_open (Some over) low = 0
 
 module _ (X E : Type 0) where
   -- the first item comes, or its failure
-  inclusive_few : (x : X) (low : ℕ) (v : Result Bool E) → MadeFew ends_come (inclusive_by x v).0 (λ n. min (low - 1) 1 ≤ n) (λ n. min low 1 ≤ n)
+  inclusive_few : (x : X) (low : ℕ) (v : Result Bool E) → EmittedFew ends_come (inclusive_by x v).0 (λ n. min (low - 1) 1 ≤ n) (λ n. min low 1 ≤ n)
   inclusive_few x low (Ok true) = λ n after. omega arith
   inclusive_few x low (Ok false) = omega arith
   inclusive_few x low (Err e) = tt
 
-  inclusive_at_most : (x : X) (n : ℕ) (v : Result Bool E) → made_total ends_come items_of (inclusive_by x v).0 + n ≤ suc n
+  inclusive_at_most : (x : X) (n : ℕ) (v : Result Bool E) → emitted_total ends_come items_of (inclusive_by x v).0 + n ≤ suc n
   inclusive_at_most x n (Ok true) = omega arith
   inclusive_at_most x n (Ok false) = omega arith
   inclusive_at_most x n (Err e) = omega arith

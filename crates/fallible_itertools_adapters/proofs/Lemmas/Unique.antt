@@ -7,12 +7,12 @@ use Rattle.std.specs.List.{list_any}
 use Rattle.std.proofs.Common.{refl, sym, ap, subst, inl, inr, ◌∙◌}
 use Rattle.fallible_iterator.specs.Contract.{Contract, parts_as}
 use Rattle.fallible_iterator.specs.Lists.{Lists}
+use Rattle.fallible_iterator.specs.Refusing.{ListsUntilRefused}
+use Rattle.fallible_iterator.proofs.Lemmas.Refusing.{lists_until_refused_seen}
 use Rattle.fallible_iterator.proofs.Lemmas.Seen.{HasSeen, cond_true_is_or}
 use Rattle.fallible_itertools_adapters.specs.Unique.{unique_asks, unique_by, unique_contract, unique_of, unique_parts, unique_seen}
 use Rattle.fallible_itertools_adapters.specs.UniqueBy.{by_key_made, first_of_key, unique_by_key}
-use Rattle.fallible_itertools_adapters.specs.UnlessRefused.{ListsUnlessRefused}
-use Rattle.fallible_itertools_adapters.proofs.Lemmas.Sieved.{ToldOrRefused, gives_sieved}
-use Rattle.fallible_itertools_adapters.proofs.Lemmas.UnlessRefused.{gives_unless_refused_seen}
+use Rattle.fallible_itertools_adapters.proofs.Lemmas.Sieved.{ToldOrRefused, gives_sieved_until_refused}
 use Rattle.std.specs.declared.alloc.AllocError.{AllocError}
 use Rattle.fallible_iterator.specs.Outcome.{Outcome}
 use Rattle.fallible_iterator.specs.Outcome.TheVariants.{Kept, LeftOut, Failure, End}
@@ -39,9 +39,7 @@ module _ {A E : Type 0} (S : Type 0) (eq : A → A → Bool) (equivalence : IsEq
   pub told_of_item : (p q : HashSet A S) (seen : List A) (x : A) (o : Outcome A E) → HasSeen eq p seen → unique_asks eq is_clone is_infallible from p x o q → ToldOfSeen (by_key_made eq seen x (Ok x)) o q
   told_of_item p q seen x o has w = subst (λ (b : Bool). ToldOfSeen (first_of_key eq seen x x b) o q) (has x) (told_by_member p q seen x (contains eq p x) o has w)
 
-pub lists_unique : {I A E : Type 0} (eq : A → A → Bool) (equivalence : IsEquivalence eq) (is_clone : A → A → Type 0) (clones : ClonesAreEqual eq is_clone) (is_infallible : A → Type 0) (from : AllocError → E → Type 0) (m : Contract I A E) (s : Unique I A E) (l : List (Result A E)) → IsEmpty (unique_seen s) → Lists m.steps s.it l → ListsUnlessRefused ⊥ (parts_as unique_parts (unique_contract eq is_clone is_infallible from m)).steps from s (unique_of eq l)
+pub lists_unique : {I A E : Type 0} (eq : A → A → Bool) (equivalence : IsEquivalence eq) (is_clone : A → A → Type 0) (clones : ClonesAreEqual eq is_clone) (is_infallible : A → Type 0) (from : AllocError → E → Type 0) (m : Contract I A E) (s : Unique I A E) (l : List (Result A E)) → IsEmpty (unique_seen s) → Lists m.steps s.it l → ListsUntilRefused (λ x y. y ≡ x) (parts_as unique_parts (unique_contract eq is_clone is_infallible from m)).steps from s (unique_of eq l)
 unfolding unique_of unique_by_key
-lists_unique eq equivalence is_clone clones is_infallible from m s l none i = record {
-  runs = gives_unless_refused_seen ⊥ from unique_parts (unique_contract eq is_clone is_infallible from m).steps (unique_of eq l) s
-      (gives_sieved m.steps (unique_asks eq is_clone is_infallible from) from ⊥ (λ q seen. HasSeen eq q seen) (λ seen x. by_key_made eq seen x (Ok x)) (told_of_item _ eq equivalence is_clone clones is_infallible from) l s.it s.seen [] (λ k. ap (list_any (eq k)) none) i.runs);
-}
+lists_unique eq equivalence is_clone clones is_infallible from m s l none i = lists_until_refused_seen (λ x y. y ≡ x) from unique_parts (unique_contract eq is_clone is_infallible from m).steps s refl refl
+    (gives_sieved_until_refused m.steps (unique_asks eq is_clone is_infallible from) from ⊥ (λ q seen. HasSeen eq q seen) (λ seen x. by_key_made eq seen x (Ok x)) (told_of_item _ eq equivalence is_clone clones is_infallible from) (λ never. never) l s.it s.seen [] (λ k. ap (list_any (eq k)) none) i.runs)

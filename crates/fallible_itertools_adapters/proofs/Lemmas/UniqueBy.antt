@@ -9,11 +9,11 @@ use Rattle.std.proofs.Common.{refl, sym, ap, subst, inl, inr}
 use Rattle.fallible_iterator.specs.Closures.{call_by_reference}
 use Rattle.fallible_iterator.specs.Contract.{Contract, parts_as}
 use Rattle.fallible_iterator.specs.Lists.{Acts, Lists}
+use Rattle.fallible_iterator.specs.Refusing.{ListsUntilRefused}
+use Rattle.fallible_iterator.proofs.Lemmas.Refusing.{lists_until_refused_seen}
 use Rattle.fallible_iterator.proofs.Lemmas.Seen.{HasSeen, has_seen_more}
 use Rattle.fallible_itertools_adapters.specs.UniqueBy.{by_key_made, first_of_key, key_asks, key_at, keyed_by, unique_by_contract, unique_by_keys, unique_by_parts, unique_by_key}
-use Rattle.fallible_itertools_adapters.specs.UnlessRefused.{ListsUnlessRefused}
-use Rattle.fallible_itertools_adapters.proofs.Lemmas.Sieved.{ToldOrRefused, gives_sieved}
-use Rattle.fallible_itertools_adapters.proofs.Lemmas.UnlessRefused.{gives_unless_refused_seen}
+use Rattle.fallible_itertools_adapters.proofs.Lemmas.Sieved.{ToldOrRefused, gives_sieved_until_refused}
 use Rattle.std.specs.declared.alloc.AllocError.{AllocError}
 use Rattle.fallible_iterator.specs.Outcome.{Outcome}
 use Rattle.fallible_iterator.specs.Outcome.TheVariants.{Kept, LeftOut, Failure, End}
@@ -43,9 +43,7 @@ module _ {A K E : Type 0} (S : Type 0) (eq : K → K → Bool) (equivalence : Is
     pub told_by_closure : (p q : HashSet K S × F) (keys : List K) (x : A) (o : Outcome A E) → SeenBy p keys → key_asks eq from call p x o q → ToldOrRefused from ⊥ SeenBy (by_key_made eq keys x (h x)) o q
     told_by_closure p q keys x o at w = let d = acts x w.0 q.1 (subst (λ (g : F). call g x w.0 q.1) at.1 w.1) in elim (told_by_key p.0 q.0 keys x (h x) o at.0 (subst (λ (v : Result K E). keyed_by eq from p.0 x v o q.0) d.1 w.2)) [ inl k ↦ inl k | inr k ↦ inr (k.0, (k.1, d.0)) ]
 
-pub lists_unique_by_key : {I A K F E : Type 0} (eq : K → K → Bool) (equivalence : IsEquivalence eq) (from : AllocError → E → Type 0) (m : Contract I A E) (g : Mut F (Bor A × Unit {0}) (Result K E)) (s : UniqueBy I K F) (f : F) (h : A → Result K E) (l : List (Result A E)) → IsEmpty (unique_by_keys s) → s.keying.1 ≡ f → Acts (call_by_reference g) f h → Lists m.steps s.it l → ListsUnlessRefused ⊥ (parts_as unique_by_parts (unique_by_contract eq from m g)).steps from s (unique_by_key eq h l)
+pub lists_unique_by_key : {I A K F E : Type 0} (eq : K → K → Bool) (equivalence : IsEquivalence eq) (from : AllocError → E → Type 0) (m : Contract I A E) (g : Mut F (Bor A × Unit {0}) (Result K E)) (s : UniqueBy I K F) (f : F) (h : A → Result K E) (l : List (Result A E)) → IsEmpty (unique_by_keys s) → s.keying.1 ≡ f → Acts (call_by_reference g) f h → Lists m.steps s.it l → ListsUntilRefused (λ x y. y ≡ x) (parts_as unique_by_parts (unique_by_contract eq from m g)).steps from s (unique_by_key eq h l)
 unfolding unique_by_key
-lists_unique_by_key eq equivalence from m g s f h l none is acts i = record {
-  runs = gives_unless_refused_seen ⊥ from unique_by_parts (unique_by_contract eq from m g).steps (unique_by_key eq h l) s
-      (gives_sieved m.steps (key_asks eq from (call_by_reference g)) from ⊥ (SeenBy _ eq equivalence from (call_by_reference g) f h acts) (λ keys x. by_key_made eq keys x (h x)) (told_by_closure _ eq equivalence from (call_by_reference g) f h acts) l s.it s.keying [] ((λ k. ap (list_any (eq k)) none), is) i.runs);
-}
+lists_unique_by_key eq equivalence from m g s f h l none is acts i = lists_until_refused_seen (λ x y. y ≡ x) from unique_by_parts (unique_by_contract eq from m g).steps s refl refl
+    (gives_sieved_until_refused m.steps (key_asks eq from (call_by_reference g)) from ⊥ (SeenBy _ eq equivalence from (call_by_reference g) f h acts) (λ keys x. by_key_made eq keys x (h x)) (told_by_closure _ eq equivalence from (call_by_reference g) f h acts) (λ never. never) l s.it s.keying [] ((λ k. ap (list_any (eq k)) none), is) i.runs)

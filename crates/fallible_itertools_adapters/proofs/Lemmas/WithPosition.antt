@@ -12,12 +12,12 @@ use Rattle.fallible_itertools_adapters.specs.Laws.Plan.{Always}
 use Rattle.fallible_itertools_adapters.specs.Laws.WithPosition.{position_buffers}
 use Rattle.fallible_itertools_adapters.specs.Plan.{calls_nothing, plan_meets}
 use Rattle.fallible_itertools_adapters.specs.Staged.{as_function, plan_does, staged}
-use Rattle.fallible_itertools_adapters.specs.Staging.{EndsInStop, items_of, made_total, passes_over, stage_step, stop_comes, yields}
+use Rattle.fallible_itertools_adapters.specs.Staging.{EndsInStop, items_of, emitted_total, passes_over, stage_step, stop_comes, yields}
 use Rattle.fallible_itertools_adapters.specs.WithPosition.{position_plan, position_stops, positioned, positioned_last, with_position_contract, with_position_due, with_position_parts, with_position_source}
 use Rattle.fallible_itertools_adapters.proofs.Lemmas.BeforeStop.{end_before_stop, hints_where_held, parted_by_failure}
 use Rattle.fallible_itertools_adapters.proofs.Lemmas.PlanHints.{PlanMakes}
 use Rattle.fallible_itertools_adapters.proofs.Lemmas.Staged.{gives_plan}
-use Rattle.fallible_itertools_adapters.proofs.Lemmas.StagingHints.{MadeFew}
+use Rattle.fallible_itertools_adapters.proofs.Lemmas.StagingHints.{EmittedFew}
 use Rattle.fallible_itertools_adapters.specs.declared.with_position.Position.{Position}
 use Rattle.fallible_itertools_adapters.specs.declared.with_position.Position.TheVariants.{First, Middle, Last, Only}
 use Rattle.fallible_itertools_adapters.specs.declared.with_position.WithPosition.{WithPosition}
@@ -87,26 +87,26 @@ module _ {S A E : Type 0} (steps : S → Answered A E → S → Type 0) where
 -- ---- its hint
 
 module _ (A E : Type 0) where
-  position_at_most : (held : Option (Bool × A)) (x : A) (n : ℕ) → Always (λ t. made_total {E = E} stop_comes items_of t.0 + (n + held_one t.1) ≤ suc n + held_one held) (position_plan held x)
+  position_at_most : (held : Option (Bool × A)) (x : A) (n : ℕ) → Always (λ t. emitted_total {E = E} stop_comes items_of t.0 + (n + held_one t.1) ≤ suc n + held_one held) (position_plan held x)
   position_at_most None x n = omega arith
   position_at_most (Some p) x n = omega arith
 
-  position_at_most_at_stop : (held : Option (Bool × A)) (stop : Option E) → (made_total stop_comes items_of (position_stops held stop).0 ≤ 0 + held_one held) × EndsInStop stop_comes (position_stops held stop).0
+  position_at_most_at_stop : (held : Option (Bool × A)) (stop : Option E) → (emitted_total stop_comes items_of (position_stops held stop).0 ≤ 0 + held_one held) × EndsInStop stop_comes (position_stops held stop).0
   position_at_most_at_stop None None = (omega arith, tt)
   position_at_most_at_stop None (Some e) = (omega arith, tt)
   position_at_most_at_stop (Some p) None = (omega arith, tt)
   position_at_most_at_stop (Some p) (Some e) = (omega arith, tt)
 
   -- none is lost: what is held is one more
-  position_no_fewer : (held : Option (Bool × A)) (x : A) (low : ℕ) → Always (λ t. MadeFew {E = E} stop_comes t.0 (λ n. (low - 1) + held_one t.1 ≤ n) (λ n. low + held_one held ≤ n)) (position_plan held x)
+  position_no_fewer : (held : Option (Bool × A)) (x : A) (low : ℕ) → Always (λ t. EmittedFew {E = E} stop_comes t.0 (λ n. (low - 1) + held_one t.1 ≤ n) (λ n. low + held_one held ≤ n)) (position_plan held x)
   position_no_fewer None x low = λ n after. omega (arith, after)
   position_no_fewer (Some p) x low = λ n after. omega (arith, after)
 
-  position_no_fewer_at_end : (held : Option (Bool × A)) → MadeFew {E = E} stop_comes (position_stops held None).0 (λ n. 0 + 0 ≤ n) (λ n. 0 + held_one held ≤ n)
+  position_no_fewer_at_end : (held : Option (Bool × A)) → EmittedFew {E = E} stop_comes (position_stops held None).0 (λ n. 0 + 0 ≤ n) (λ n. 0 + held_one held ≤ n)
   position_no_fewer_at_end None = omega arith
   position_no_fewer_at_end (Some p) = omega arith
 
-  position_no_fewer_at_failure : (held : Option (Bool × A)) (e : E) (low : ℕ) → MadeFew stop_comes (position_stops held (Some e)).0 (λ n. 0 + 0 ≤ n) (λ n. low + held_one held ≤ n)
+  position_no_fewer_at_failure : (held : Option (Bool × A)) (e : E) (low : ℕ) → EmittedFew stop_comes (position_stops held (Some e)).0 (λ n. 0 + 0 ≤ n) (λ n. low + held_one held ≤ n)
   position_no_fewer_at_failure None e low = tt
   position_no_fewer_at_failure (Some p) e low = tt
 

@@ -4,9 +4,9 @@ use Rattle.std.specs.List.{FoldsTo}
 use Rattle.std.proofs.Common.{refl, sym, subst}
 use Rattle.fallible_iterator.specs.Traces.{Answered, Run}
 use Rattle.fallible_iterator.specs.Laws.LawForm.{IsTraced}
-use Rattle.fallible_itertools_adapters.specs.Staging.{DrawsUpTo, Emits, Made, StagedTrace, due_comes, due_left, emits_due, emits_later, emits_made, emits_nothing, passes_over, stage_step, yields}
+use Rattle.fallible_itertools_adapters.specs.Staging.{DrawsUpTo, Emits, Emitted, StagedTrace, due_comes, due_left, emits_due, emits_later, emits_first, emits_nothing, passes_over, stage_step, yields}
 
-module _ {S P X D B L E : Type 0} (comes : L → Option (Answered B E)) (meets : P → Answered X D → Made B L E → P → Type 0) (steps : S → Answered X D → S → Type 0) where
+module _ {S P X D B L E : Type 0} (comes : L → Option (Answered B E)) (meets : P → Answered X D → Emitted B L E → P → Type 0) (steps : S → Answered X D → S → Type 0) where
   abbrev State : Type 0
   State = S × (P × Option L)
 
@@ -14,7 +14,7 @@ module _ {S P X D B L E : Type 0} (comes : L → Option (Answered B E)) (meets :
   TraceHere = StagedTrace (Run steps) comes meets
 
   drawn_then : (q : State) (rest : List (Answered B E)) (s t : S) (h : P) (r : Answered B E) (k : P × Option L) → DrawsUpTo comes meets steps s h r t k → TraceHere (t, k) rest q → TraceHere (s, (h, None)) (r ∷ rest) q
-  drawn_then q rest s t h r _ (yields {q = g} {due = due} a step called) w = record { draws = (a, Some (r, due)) ∷ w.draws; drawn = (t, step, w.drawn); met = (g, called, w.met); emitted = emits_made a r w.emitted }
+  drawn_then q rest s t h r _ (yields {q = g} {due = due} a step called) w = record { draws = (a, Some (r, due)) ∷ w.draws; drawn = (t, step, w.drawn); met = (g, called, w.met); emitted = emits_first a r w.emitted }
   drawn_then q rest s t h r k (passes_over {u = u} {h = g} a step called more) w = let v = drawn_then q rest u t g r k more w in record { draws = (a, None) ∷ v.draws; drawn = (u, step, v.drawn); met = (g, called, v.met); emitted = emits_later a v.emitted }
 
   due_then : (s : S) (h : P) (later : L) (rest : List (Answered B E)) (q : State) → TraceHere (s, (h, due_left later (comes later))) rest q → TraceHere (s, (h, Some later)) (due_comes (comes later) ∷ rest) q
@@ -28,10 +28,10 @@ module _ {S P X D B L E : Type 0} (comes : L → Option (Answered B E)) (meets :
   trace_of_run [] p q ran = rw (sym ran) (record { draws = []; drawn = refl; met = refl; emitted = emits_nothing })
   trace_of_run (r ∷ rest) p q ran = step_then p ran.0 q r rest ran.1 (trace_of_run rest ran.0 q ran.2)
 
-  run_of_draws : (draws : List (Answered X D × Made B L E)) (s t : S) (h k : P) (due after : Option L) (trace : List (Answered B E)) → Run steps s (map (λ d. d.0) draws) t → FoldsTo (λ h d k. meets h d.0 d.1 k) h draws k → Emits comes due draws trace after → Run (stage_step comes meets steps) (s, (h, due)) trace (t, (k, after))
+  run_of_draws : (draws : List (Answered X D × Emitted B L E)) (s t : S) (h k : P) (due after : Option L) (trace : List (Answered B E)) → Run steps s (map (λ d. d.0) draws) t → FoldsTo (λ h d k. meets h d.0 d.1 k) h draws k → Emits comes due draws trace after → Run (stage_step comes meets steps) (s, (h, due)) trace (t, (k, after))
   run_of_draws _ s t h k due _ _ ran met emits_nothing = rw (sym ran, sym met) refl
   run_of_draws draws s t h k _ after _ ran met (emits_due {trace = rest} later e) = ((s, (h, due_left later (comes later))), (refl, refl, refl), run_of_draws draws s t h k (due_left later (comes later)) after rest ran met e)
-  run_of_draws _ s t h k _ after _ ran met (emits_made {due = due} {draws = draws} {trace = rest} x a e) = ((ran.0, (met.0, due)), yields x ran.1 met.1, run_of_draws draws ran.0 t met.0 k due after rest ran.2 met.2 e)
+  run_of_draws _ s t h k _ after _ ran met (emits_first {due = due} {draws = draws} {trace = rest} x a e) = ((ran.0, (met.0, due)), yields x ran.1 met.1, run_of_draws draws ran.0 t met.0 k due after rest ran.2 met.2 e)
   run_of_draws _ s t h k _ after _ ran met (emits_later {draws = draws} {r = r} {trace = rest} x e) = let more = run_of_draws draws ran.0 t met.0 k None after (r ∷ rest) ran.2 met.2 e in (more.0, passes_over x ran.1 met.1 more.1, more.2)
 
   pub stage_traced : {traces : S → List (Answered X D) → S → Type 0} → IsTraced steps traces → IsTraced (λ p r q. stage_step comes meets steps p r q) (λ p trace q. StagedTrace traces comes meets p trace q)

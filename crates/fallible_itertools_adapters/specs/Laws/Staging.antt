@@ -9,8 +9,7 @@ use Rattle.fallible_iterator.specs.Contract.{Contract, OnAnswer, KeptByDraw, Kep
 use Rattle.fallible_iterator.specs.Closures.{Reaches, MayAnswer}
 use Rattle.fallible_iterator.specs.Laws.Contract.{kept_by_draws_of_one_draw, kept_by_draws_transitive}
 use Rattle.fallible_iterator.specs.Laws.Closures.{reaches_reflexive, reaches_weaken, reaches_by_call_first, may_answer_of_call, may_answer_where_reached_may_answer}
-use Rattle.fallible_itertools_adapters.specs.Staging.{Made, DrawsUpTo, yields, passes_over, due_comes, due_left, items_of, stays_of, due_total, made_total, IsStage, IsDue, IsMade, MayMeet, MayCome, TakesAll, stage_contract}
-use Rattle.fallible_iterator.specs.Passing.{IfItem}
+use Rattle.fallible_itertools_adapters.specs.Staging.{Emitted, DrawsUpTo, yields, passes_over, due_comes, due_left, items_of, stays_of, due_total, emitted_total, IsStage, IsDue, IsEmitted, MayMeet, MayCome, stage_contract}
 use Rattle.fallible_itertools_adapters.specs.Laws.Staged.{stage_traced}
 
 scaled_parts_within_scaled_whole : (c k i n : ℕ) → k + i ≤ n → c * k + c * i ≤ c * n
@@ -39,14 +38,11 @@ module _ {S X D : Type 0} (m : Contract S X D) where
   remaining_finite_and_fewer_after_answer s t (Ok None) h f = let k = h.1 f in (k.0, omega (arith, k.1))
   remaining_finite_and_fewer_after_answer s t (Err e) h f = let k = h.2 f in (k.0, omega (arith, k.1))
 
--- ---- what is made, and what is due
+-- ---- what is emitted, and what is due
 
--- what is made is one answer and what is due after it
-pub parts_equal_where_made_equal : {B L E : Type 0} {r a : Answered B E} {due later : Option L} → ◌≡◌ {A = Made B L E} (Some (r, due)) (Some (a, later)) → (r ≡ a) × (due ≡ later)
-parts_equal_where_made_equal {B = B} {L = L} {E = E} {r = r} {a = a} {due = due} {later = later} e = let same : ◌≡◌ {A = Answered B E × Option L} (r, due) (a, later) = cc in (ap (λ p. p.0) same, ap (λ p. p.1) same)
-
-pub made_equal_where_parts_equal : {B L E : Type 0} {r a : Answered B E} {due later : Option L} → r ≡ a → due ≡ later → ◌≡◌ {A = Made B L E} (Some (r, due)) (Some (a, later))
-made_equal_where_parts_equal same left = rw (same, left) refl
+-- what is emitted is one answer and what is due after it
+pub parts_equal_where_emitted_equal : {B L E : Type 0} {r a : Answered B E} {due later : Option L} → ◌≡◌ {A = Emitted B L E} (Some (r, due)) (Some (a, later)) → (r ≡ a) × (due ≡ later)
+parts_equal_where_emitted_equal {B = B} {L = L} {E = E} {r = r} {a = a} {due = due} {later = later} e = let same : ◌≡◌ {A = Answered B E × Option L} (r, due) (a, later) = cc in (ap (λ p. p.0) same, ap (λ p. p.1) same)
 
 module _ {L B E : Type 0} (comes : L → Option (Answered B E)) where
   pub due_total_of_due_left_is_zero : (later : L) (c : Option (Answered B E)) → comes later ≡ c → (due_total comes items_of (due_left later c) ≡ 0) × (due_total comes stays_of (due_left later c) ≡ 0)
@@ -57,7 +53,7 @@ module _ {L B E : Type 0} (comes : L → Option (Answered B E)) where
   is_due_before_where_due_left later r (Some a) d = absurd d
   is_due_before_where_due_left later r None d = d
 
-module _ {S P X D B L E : Type 0} {m : Contract S X D} (l : Lawful m) (comes : L → Option (Answered B E)) (meets : P → Answered X D → Made B L E → P → Type 0) (can : (Answered X D → Type 0) → P → Type 0) (most : ℕ) (held : P → ℕ) (hints : S × (P × Option L) → ℕ × Option ℕ → Type 0) (w : IsStage comes meets most held) (stays : (Q R : Answered X D → Type 0) (p q : P) → ((a : Answered X D) → R a → Q a) → Reaches meets Q p q → can Q p → can R q) where
+module _ {S P X D B L E : Type 0} {m : Contract S X D} (l : Lawful m) (comes : L → Option (Answered B E)) (meets : P → Answered X D → Emitted B L E → P → Type 0) (can : (Answered X D → Type 0) → P → Type 0) (most : ℕ) (held : P → ℕ) (hints : S × (P × Option L) → ℕ × Option ℕ → Type 0) (w : IsStage comes meets most held) (stays : (Q R : Answered X D → Type 0) (p q : P) → ((a : Answered X D) → R a → Q a) → Reaches meets Q p q → can Q p → can R q) where
   abbrev State : Type 0
   State = S × (P × Option L)
 
@@ -69,10 +65,10 @@ module _ {S P X D B L E : Type 0} {m : Contract S X D} (l : Lawful m) (comes : L
     bound : (n : ℕ) → m.bound s n → (k : ℕ) × m.bound t k × (most * k + held q + i ≤ most * n + held p)
     remaining : IsFinite (m.remaining s) → IsFinite (m.remaining t) × (most * size (m.remaining t) + held q + j ≤ most * size (m.remaining s) + held p)
 
-  spends_made_total_where_met : (s t : S) (p q : P) (a : Answered X D) (made : Made B L E) → OnAnswer m s a t → meets p a made q → Spends (made_total comes items_of made) (made_total comes stays_of made) s p t q
-  spends_made_total_where_met s t p q a made h called = record {
-    bound = λ n b. let k = bound_after m s t a h n b in (k.0, k.1, omega (arith, scaled_parts_within_scaled_whole most k.0 (items_of a) n k.2, (w p a made q called).0));
-    remaining = λ f. let k = remaining_finite_and_fewer_after_answer m s t a h f in (k.0, omega (arith, scaled_parts_within_scaled_whole most (size (m.remaining t)) (stays_of a) (size (m.remaining s)) k.1, (w p a made q called).1));
+  spends_emitted_total_where_met : (s t : S) (p q : P) (a : Answered X D) (emitted : Emitted B L E) → OnAnswer m s a t → meets p a emitted q → Spends (emitted_total comes items_of emitted) (emitted_total comes stays_of emitted) s p t q
+  spends_emitted_total_where_met s t p q a emitted h called = record {
+    bound = λ n b. let k = bound_after m s t a h n b in (k.0, k.1, omega (arith, scaled_parts_within_scaled_whole most k.0 (items_of a) n k.2, (w p a emitted q called).0));
+    remaining = λ f. let k = remaining_finite_and_fewer_after_answer m s t a h f in (k.0, omega (arith, scaled_parts_within_scaled_whole most (size (m.remaining t)) (stays_of a) (size (m.remaining s)) k.1, (w p a emitted q called).1));
   }
 
   spends_transitive : (i j : ℕ) (s u t : S) (p h q : P) → Spends 0 0 s p u h → Spends i j u h t q → Spends i j s p t q
@@ -87,20 +83,20 @@ module _ {S P X D B L E : Type 0} {m : Contract S X D} (l : Lawful m) (comes : L
     kept : KeptByDraws m s t
     reached : Reaches meets (MayMeet m s) p q.0
     spends : Spends (items_of r + due_total comes items_of q.1) (stays_of r + due_total comes stays_of q.1) s p t q.0
-    may : (z : Answered B E) → IsMade comes z (Some (r, q.1)) → MayAnswer meets (MayMeet m s) p (λ a made. IsMade comes z made)
+    may : (z : Answered B E) → IsEmitted comes z (Some (r, q.1)) → MayAnswer meets (MayMeet m s) p (λ a emitted. IsEmitted comes z emitted)
 
   came_of_draws : (s t : S) (p : P) (r : Answered B E) (q : P × Option L) → m.can_next s → DrawsUpTo comes meets m.steps s p r t q → Came s p r t q
   came_of_draws s t p r _ c (yields {q = q} {due = due} a step called) = let g = l.kept_by_draw s a t c step in let may = may_meet_of_answer m s t a g.answer in record {
     kept = kept_by_draws_of_one_draw g;
     reached = reaches_by_call_first a (Some (r, due)) may called reaches_reflexive;
-    spends = spends_made_total_where_met s t p q a (Some (r, due)) g.answer called;
+    spends = spends_emitted_total_where_met s t p q a (Some (r, due)) g.answer called;
     may = λ z is. may_answer_of_call q a (Some (r, due)) may called is;
   }
   came_of_draws s t p r q c (passes_over {u = u} {h = h} a step called rest) = let g = l.kept_by_draw s a u c step in let may = may_meet_of_answer m s u a g.answer in let k = kept_by_draws_of_one_draw g in
       let d = came_of_draws u t h r q g.can_next rest in record {
         kept = kept_by_draws_transitive k d.kept;
         reached = reaches_by_call_first a None may called (reaches_weaken (may_meet_before_draws m s u k) d.reached);
-        spends = spends_transitive _ _ s u t p h q.0 (spends_made_total_where_met s u p h a None g.answer called) d.spends;
+        spends = spends_transitive _ _ s u t p h q.0 (spends_emitted_total_where_met s u p h a None g.answer called) d.spends;
         may = λ z is. may_answer_where_reached_may_answer (may_meet_before_draws m s u k) (reaches_by_call_first a None may called reaches_reflexive) (d.may z is);
       }
 
@@ -165,13 +161,3 @@ module _ {P A V : Type 0} {call : P → A → V → P → Type 0} {Q : A → Typ
   -- what each call keeps holds in each state that calls bring it to
   pub kept_where_reached : {p q : P} → Reaches call Q p q → T p → T q
   kept_where_reached {p = p} {q = q} r t = kept_by_calls r.made p q r.by t
-
--- Where what the adapter meets keeps T, and T lets it be called on each item that may come, it may be called on each in each state.
-module _ {S P X D B L E : Type 0} (m : Contract S X D) (meets : P → Answered X D → Made B L E → P → Type 0) (takes : P → X → Type 0) (T : P → Type 0) (s : S) (keeps : (p : P) (a : Answered X D) (made : Made B L E) (q : P) → MayMeet m s a → T p → meets p a made q → T q) (lets : (p : P) (x : X) → m.may_give s x → T p → takes p x) where
-  takes_item_where_may_meet : (p : P) (a : Answered X D) → MayMeet m s a → T p → IfItem (takes p) a
-  takes_item_where_may_meet p (Ok (Some x)) may t = lets p x may t
-  takes_item_where_may_meet p (Ok None) may t = tt
-  takes_item_where_may_meet p (Err e) may t = tt
-
-  pub takes_all_where_reached : (p : P) → T p → TakesAll m meets takes s p
-  takes_all_where_reached p t = record { at = λ q a reached may. takes_item_where_may_meet q a may (kept_where_reached T keeps reached t) }

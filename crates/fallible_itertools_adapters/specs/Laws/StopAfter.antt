@@ -1,14 +1,14 @@
 -- The runs of `StopAfter` are its definition, and its contract is lawful where the source's is.
-use Rattle.std.specs.Prelude.{◌≡◌, ◌↔◌, ℕ, zero, suc, ◌+◌, ◌≤◌, List, [], ◌∷◌, map, Some, None, Ok, Err}
+use Rattle.std.specs.Prelude.{◌≡◌, ℕ, zero, suc, ◌+◌, ◌≤◌, List, [], ◌∷◌, map, Some, None, Ok, Err}
 use Rattle.std.proofs.Common.{arith, inl, inr, refl, sym, ap, subst, ◌∙◌}
 use Rattle.fallible_iterator.specs.Traces.{Answered, Run, end, items_in}
 use Rattle.fallible_iterator.specs.Contract.{Contract, AtMost, OnAnswer, KeptByDraw, Lawful}
 use Rattle.fallible_iterator.specs.Cutting.Take.{take_step}
 use Rattle.fallible_iterator.specs.Exchange.{exchanged, steps_exchanged}
-use Rattle.fallible_iterator.specs.Laws.Cutting.Take.{take_law, take_traced}
+use Rattle.fallible_iterator.specs.Laws.Cutting.Take.{take_traced}
 use Rattle.fallible_iterator.specs.Laws.Exchange.{exchanged_traced, exchanged_twice}
 use Rattle.fallible_iterator.specs.Laws.LawForm.{IsTraced}
-use Rattle.fallible_itertools_adapters.specs.StopAfter.{StopAfterTrace, stop_after_contract, stop_after_step, stops_after_all}
+use Rattle.fallible_itertools_adapters.specs.StopAfter.{stop_after_contract, stop_after_step, stops_after_all}
 
 module _ {S A E : Type 0} (m : Contract S A E) where
   abbrev StopAfterContract : Contract (S × (ℕ × ℕ)) A E
@@ -75,10 +75,6 @@ module _ {S A E : Type 0} (steps : S → Answered A E → S → Type 0) where
   run_of_take : (trace : List (Answered A E)) (p q : State) → Run TakeStep (p.0, p.1.0) (map exchanged trace) (q.0, q.1.0) → q.1.1 + items_in trace ≡ p.1.1 → Run Step p trace q
   run_of_take [] (s, (n, k)) (t, (j, i)) e c = let same : i ≡ k = omega (arith, c) in rw (ap (λ (p : S × ℕ). p.0) e, ap (λ (p : S × ℕ). p.1) e, same) refl
   run_of_take (r ∷ rest) p q h c = let u : State = (h.0.0, (h.0.1, q.1.1 + items_in rest)) in (u, step_of_take p u r h.1 (omega (arith, c, first_and_rest r rest)), run_of_take rest u q h.2 refl)
-
-  pub stop_after_law : (p : State) (trace : List (Answered A E)) (q : State) → Run Step p trace q ↔ StopAfterTrace steps p trace q
-  stop_after_law p trace q = let law = take_law (steps_exchanged steps) (p.0, p.1.0) (map exchanged trace) (q.0, q.1.0) in
-      ((λ h. let k = take_of_run trace p q h in (law.0 k.0, k.1)), (λ d. run_of_take trace p q (law.1 d.0) d.1))
 
   pub stop_after_traced : {traces : S → List (Answered A E) → S → Type 0} → IsTraced steps traces → IsTraced (stop_after_step steps) (stops_after_all traces)
   stop_after_traced law p trace q = let both = take_traced (exchanged_traced law) (p.0, p.1.0) (map exchanged trace) (q.0, q.1.0) in

@@ -13,7 +13,7 @@ use crate::dedup_by_with_count::DedupByWithCount;
 use crate::dedup_with_count::DedupWithCount;
 use fallible_iterator::FallibleIterator;
 
-/// It is `deduped_by_with_count` by the equality. Each item is beside the number of items of the group that it begins, as `chunked_by` makes groups of equal items; a number above `usize::MAX` is that one. Without the numbers it is what `dedup` yields. A failure parts a list: what stands before it is counted by itself, and so is what comes after it.
+/// Each item is beside the number of items of the group that it begins, as `chunked_by` makes groups of equal items; a number above `usize::MAX` is that one. It is `deduped_by_with_count` by the equality. Without the numbers it is what `dedup` yields. A failure parts a list: what stands before it is counted by itself, and so is what comes after it.
 pub fn law_deduped_with_count<T: PartialEq, E>()
     ensures equal { (l : List (Result T E))
         → deduped_with_count T.eq l ≡ deduped_by_with_count (λ y x. Ok (T.eq y x)) l }
@@ -36,7 +36,7 @@ where
     ensures { HintsWhereHeld ⟦<DedupWithCount<I> as FallibleIterator>⟧.contract dedup_with_count_due I.contract dedup_with_count_source }
 {}
 
-/// Nothing is made of an empty list, and of one item that item beside 1. Of two items that are the same, the second is counted with the first; of two others the first is beside 1. Where the closure fails on two, the first comes and then its failure, in the place of the second. Without the numbers it is what `dedup_by` yields. A failure parts a list: what stands before it is counted by itself, and so is what comes after it.
+/// Of two items that are the same, the second is counted with the first; of two others the first is beside 1. Nothing is made of an empty list, and of one item that item beside 1. Where the closure fails on two, the first comes and then its failure, in the place of the second. Without the numbers it is what `dedup_by` yields. A failure parts a list: what stands before it is counted by itself, and so is what comes after it.
 pub fn law_deduped_by_with_count<T, E>()
     ensures none { (h : T → T → Result Bool E) → deduped_by_with_count h [] ≡ [] }
     ensures one { (h : T → T → Result Bool E) (x : T)

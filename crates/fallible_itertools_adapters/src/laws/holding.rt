@@ -173,7 +173,7 @@ where
         (tuples_source s) }
 {}
 
-/// Nothing is made of an empty list. An item alone is `Only`. Of several items the first is `First`, the last is `Last`, and the others are `Middle`. A failure parts a list: the items before it have their positions by themselves, and so do those after it.
+/// An item alone is `Only`; of several items the first is `First`, the last is `Last`, and the others are `Middle`. Nothing is made of an empty list. A failure parts a list: the items before it have their positions by themselves, and so do those after it.
 pub fn law_positioned<T, E>()
     ensures parts { (a : List (Result T E)) (e : E) (b : List (Result T E))
         → positioned (a ++ Err e ∷ b) ≡ positioned a ++ Err e ∷ positioned b }

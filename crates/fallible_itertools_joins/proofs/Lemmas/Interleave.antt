@@ -12,7 +12,7 @@ use Rattle.fallible_iterator.specs.Fuse.{Fuse}
 use Rattle.fallible_iterator.proofs.Lemmas.Hints.Drawn.{if_some_at_least_of_smaller}
 use Rattle.fallible_iterator.proofs.Lemmas.Hints.Joining.{if_some_fitting_sum_at_least_both}
 use Rattle.fallible_iterator.proofs.Lemmas.Lists.ForGood.{lists_once, lists_for_good_seen}
-use Rattle.fallible_iterator.specs.Interleaved.{Interleaved, of_neither, of_first, of_second}
+use Rattle.fallible_iterator.specs.Interleaved.{Interleaved, interleaved_nil, of_first, of_second}
 use Rattle.fallible_itertools_joins.specs.Interleave.{Turn, by_itself, by_other, interleave_contract, interleave_parts, interleaved, turn_answer, turn_gave, turn_sides, turns}
 use Rattle.fallible_itertools_joins.specs.Sides.{GivesIf, fused_steps, places_step}
 use Rattle.fallible_itertools_joins.specs.declared.interleave.Interleave.{Interleave}
@@ -53,11 +53,11 @@ module _ {A E : Type 0} where
   interleaved_is_zip_before_dropped (x ∷ a) (y ∷ b) = ap {B = List (Result A E)} (λ l. x ∷ y ∷ l) (interleaved_is_zip_before_dropped a b)
 
   interleaved_all_of_first : (a : List (Result A E)) → Interleaved a [] a
-  interleaved_all_of_first [] = of_neither
+  interleaved_all_of_first [] = interleaved_nil
   interleaved_all_of_first (x ∷ a) = of_first x (interleaved_all_of_first a)
 
   interleaved_all_of_second : (b : List (Result A E)) → Interleaved [] b b
-  interleaved_all_of_second [] = of_neither
+  interleaved_all_of_second [] = interleaved_nil
   interleaved_all_of_second (y ∷ b) = of_second y (interleaved_all_of_second b)
 
   pub interleaved_of_both : (a b : List (Result A E)) → Interleaved a b (interleaved a b)

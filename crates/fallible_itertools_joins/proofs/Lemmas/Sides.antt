@@ -8,16 +8,17 @@ use Rattle.fallible_iterator.specs.Traces.{Answered, Run, Yields, item, failure,
 use Rattle.fallible_iterator.specs.Closing.{closing_step}
 use Rattle.fallible_iterator.specs.Contract.{Contract, Lawful}
 use Rattle.fallible_iterator.specs.Folds.{CallableDriving, Driven}
-use Rattle.fallible_iterator.proofs.Lemmas.Folds.{driven_by_item_first, driven_end, driven_failure, driven_stop, holds_at_first_turn, holds_each_turn_after_item}
+use Rattle.fallible_iterator.proofs.Lemmas.Folds.{driven_by_item_first, driven_end, driven_failure, driven_of_first_break, holds_at_first_turn, holds_each_turn_after_item}
 use Rattle.fallible_iterator.proofs.Lemmas.Loops.{CountsDown}
 use Rattle.std.specs.declared.ops.ControlFlow.{ControlFlow}
 use Rattle.std.specs.declared.ops.ControlFlow.TheVariants.{Continue, Break}
 use Rattle.fallible_iterator.specs.Cutting.Fuse.{fuse_parts}
 use Rattle.fallible_iterator.specs.Held.{held_count}
 use Rattle.fallible_iterator.specs.Hints.{fitting_sum}
-use Rattle.fallible_iterator.specs.Lists.{ActsWith, GivesForGood, Lists, result_answer}
+use Rattle.fallible_iterator.specs.Lists.{ActsWith, GivesForGood, Lists, ListsForGood, result_answer}
 use Rattle.fallible_iterator.specs.SoundHints.{AsSoundAsBoth}
 use Rattle.fallible_iterator.proofs.Lemmas.Cutting.Fuse.{lists_for_good_fused}
+use Rattle.fallible_iterator.proofs.Lemmas.Lists.ForGood.{lists_for_good_seen}
 use Rattle.fallible_iterator.proofs.Lemmas.Hints.Drawn.{if_some_at_least_of_smaller}
 use Rattle.fallible_iterator.proofs.Lemmas.Hints.Joining.{if_some_fitting_sum_at_least_both}
 use Rattle.fallible_iterator.specs.Fuse.{Fuse}
@@ -133,6 +134,11 @@ module _ {S U A B C E F V : Type 0} (steps : S → Answered A E → S → Type 0
   pub gives_for_good_sides : (p : SidesState steps others rule) (a : List (Result A E)) (b : List (Result B E)) → SideLists steps p.0 a → SideLists others p.1 b → Q p.2 → GivesForGood (SidesStep steps others rule) p (W a b)
   gives_for_good_sides p a b i k c = gives_for_good_where_each_answers_first (SidesStep steps others rule) ListTogether (λ s t r l d w. step_together_answers_first s t r l d w) (W a b) p (a, b, i, k, c, refl)
 
+-- what is made of two fused sides, of which nothing is drawn or held, lists so too
+module _ {X S U A B C E F V : Type 0} (left : Contract S A E) (right : Contract U B E) (rule : Rule A B C E F V) (Q : F → Type 0) (W : List (Result A E) → List (Result B E) → List (Result C E)) (by : ListsBy rule Q W) (lawful : IsLawfulRule rule) (parts : X → (Fuse S × Option A) × (Fuse U × Option B) × F) (c : X) {p : Fuse S} {q : Fuse U} {f : F} (s : S) (u : U) (a : List (Result A E)) (b : List (Result B E)) where
+  pub lists_for_good_sides : parts c ≡ ((p, None), (q, None), f) → fuse_parts p ≡ (s, false) → fuse_parts q ≡ (u, false) → Lists left.steps s a → Lists right.steps u b → Q f → ListsForGood (λ c r d. SidesStep (fused_steps left.steps) (fused_steps right.steps) rule (parts c) r (parts d)) c (W a b)
+  lists_for_good_sides begun fresh also i k holds = lists_for_good_seen parts (SidesStep (fused_steps left.steps) (fused_steps right.steps) rule) c begun refl (gives_for_good_sides (fused_steps left.steps) (fused_steps right.steps) rule Q W by lawful ((p, None), (q, None), f) a b (gives_for_good_of_fresh left p s a fresh i) (gives_for_good_of_fresh right q u b also k) holds)
+
 -- ---- hints
 
 held_count_one_at_most : {A : Type 0} (h : Option A) → held_count h ≤ 1
@@ -168,28 +174,28 @@ pub record GivesAsMany {A B C E F V : Type 0} (rule : Rule A B C E F V) (many : 
 module _ {S U A B C E F V : Type 0} (steps : S → Answered A E → S → Type 0) (others : U → Answered B E → U → Type 0) (rule : Rule A B C E F V) (many : ℕ → ℕ → ℕ) (by : GivesAsMany rule many) (lawful : IsLawfulRule rule) where
   -- Both sides yield items and then an end, and as many as these make came at least.
   pub record BothEnd (p : SidesState steps others rule) (n : ℕ) : Type 0 where
-    pub of_left : ℕ
-    pub of_right : ℕ
-    pub left : ItemsThenEnd steps p.0 of_left
-    pub right : ItemsThenEnd others p.1 of_right
-    pub few : many of_left of_right ≤ n
+    pub count_of_left : ℕ
+    pub count_of_right : ℕ
+    pub left : ItemsThenEnd steps p.0 count_of_left
+    pub right : ItemsThenEnd others p.1 count_of_right
+    pub few : many count_of_left count_of_right ≤ n
 
   both_end_at_end : (p : SidesState steps others rule) (t : S) (u : U) (g : F) (x : SidesPlace A B E V) → GivesIf steps p.0 (left_gave x) t → GivesIf others p.1 (right_gave x) u → place_decides rule p.2 x g → place_answer rule x ≡ end → BothEnd p 0
   both_end_at_end p t u g (left_failed e) m n d is = absurd cc
   both_end_at_end p t u g (right_failed x e) m n d is = absurd cc
   both_end_at_end p t u g (both_gave x y v) m n d is =
       let no = by.end_given p.2 g x y v d is in
-      record { of_left = 0; of_right = 0; left = items_then_end_none_from steps p.0 t (subst (λ (z : Option A). GivesHeldFirst steps p.0 (Ok z) t) no.0 m); right = items_then_end_none_from others p.1 u (subst (λ (z : Option B). GivesHeldFirst others p.1 (Ok z) u) no.1 n); few = omega (arith, by.nothing) }
+      record { count_of_left = 0; count_of_right = 0; left = items_then_end_none_from steps p.0 t (subst (λ (z : Option A). GivesHeldFirst steps p.0 (Ok z) t) no.0 m); right = items_then_end_none_from others p.1 u (subst (λ (z : Option B). GivesHeldFirst others p.1 (Ok z) u) no.1 n); few = omega (arith, by.nothing) }
 
   both_end_after_item : (p : SidesState steps others rule) (t : S) (u : U) (g : F) (x : SidesPlace A B E V) (z : C) (k : ℕ) → GivesIf steps p.0 (left_gave x) t → GivesIf others p.1 (right_gave x) u → place_decides rule p.2 x g → place_answer rule x ≡ item z → BothEnd ((t, left_held_after rule p.0.1 x), (u, right_held_after rule p.1.1 x), g) k → BothEnd p (k + 1)
   both_end_after_item p t u g (left_failed e) z k m n d is b = absurd cc
   both_end_after_item p t u g (right_failed x e) z k m n d is b = absurd cc
   both_end_after_item p t u g (both_gave x y v) z k m n d is b = record {
-    of_left = (held_count x - held_count (rule.left_held x y v)) + b.of_left;
-    of_right = (held_count y - held_count (rule.right_held x y v)) + b.of_right;
-    left = items_then_end_from steps p.0 t x (rule.left_held x y v) b.of_left (lawful.left_held_is_none_or_given x y v) m b.left;
-    right = items_then_end_from others p.1 u y (rule.right_held x y v) b.of_right (lawful.right_held_is_none_or_given x y v) n b.right;
-    few = omega (arith, by.item_given p.2 g x y v z b.of_left b.of_right d is, b.few);
+    count_of_left = (held_count x - held_count (rule.left_held x y v)) + b.count_of_left;
+    count_of_right = (held_count y - held_count (rule.right_held x y v)) + b.count_of_right;
+    left = items_then_end_from steps p.0 t x (rule.left_held x y v) b.count_of_left (lawful.left_held_is_none_or_given x y v) m b.left;
+    right = items_then_end_from others p.1 u y (rule.right_held x y v) b.count_of_right (lawful.right_held_is_none_or_given x y v) n b.right;
+    few = omega (arith, by.item_given p.2 g x y v z b.count_of_left b.count_of_right d is, b.few);
   }
 
   both_end_one_more_at_item : (p q : SidesState steps others rule) (z : C) (k : ℕ) → SidesStep steps others rule p (item z) q → BothEnd q k → BothEnd p (k + 1)
@@ -198,7 +204,7 @@ module _ {S U A B C E F V : Type 0} (steps : S → Answered A E → S → Type 0
   -- a run of items and then an end
   pub both_end : (zs : List C) (p q r : SidesState steps others rule) → Yields (SidesStep steps others rule) p zs q → SidesStep steps others rule q end r → BothEnd p (length zs)
   both_end [] p q ((t, h), (u, k), g) ran w = subst (λ (z : SidesState steps others rule). BothEnd z 0) (sym ran) (both_end_at_end q t u g w.0 w.1 w.3 w.5 (sym w.6))
-  both_end (z ∷ zs) p q r ran w = let b = both_end_one_more_at_item p ran.0 z (length zs) ran.1 (both_end zs ran.0 q r ran.2 w) in record { of_left = b.of_left; of_right = b.of_right; left = b.left; right = b.right; few = omega (arith, b.few) }
+  both_end (z ∷ zs) p q r ran w = let b = both_end_one_more_at_item p ran.0 z (length zs) ran.1 (both_end zs ran.0 q r ran.2 w) in record { count_of_left = b.count_of_left; count_of_right = b.count_of_right; left = b.left; right = b.right; few = omega (arith, b.few) }
 
 -- a lower bound of a side's source bounds what the side yields
 pub side_hint_below : {A : Type 0} (h : Option A) (g : ℕ × Option ℕ) (n j : ℕ) → g.0 ≤ j → j + held_count h ≤ n → (side_hint h g).0 ≤ n
@@ -256,24 +262,24 @@ TakesAsMany {A} {B} {C} {E} {F} {V} rule many = (f g : F) (x : Option A) (y : Op
 module _ {S U A B C E F V : Type 0} (steps : S → Answered A E → S → Type 0) (others : U → Answered B E → U → Type 0) (once : NoItemAfterEnd steps) (once_right : NoItemAfterEnd others) (rule : Rule A B C E F V) (many : ℕ → ℕ → ℕ) (by : TakesAsMany rule many) (lawful : IsLawfulRule rule) where
   -- Items come of both sides, and they make n at least.
   pub record BothCome (p : SidesState steps others rule) (n : ℕ) : Type 0 where
-    pub of_left : ℕ
-    pub of_right : ℕ
-    pub left : ItemsCome steps p.0 of_left
-    pub right : ItemsCome others p.1 of_right
-    pub few : n ≤ many of_left of_right
+    pub count_of_left : ℕ
+    pub count_of_right : ℕ
+    pub left : ItemsCome steps p.0 count_of_left
+    pub right : ItemsCome others p.1 count_of_right
+    pub few : n ≤ many count_of_left count_of_right
 
   both_come_after_item : (p : SidesState steps others rule) (t : S) (u : U) (g : F) (x : SidesPlace A B E V) (z : C) (k : ℕ) → GivesIf steps p.0 (left_gave x) t → GivesIf others p.1 (right_gave x) u → place_decides rule p.2 x g → place_answer rule x ≡ item z → BothCome ((t, left_held_after rule p.0.1 x), (u, right_held_after rule p.1.1 x), g) k → BothCome p (k + 1)
   both_come_after_item p t u g (left_failed e) z k m n d is b = absurd cc
   both_come_after_item p t u g (right_failed x e) z k m n d is b = absurd cc
   both_come_after_item p t u g (both_gave x y v) z k m n d is b =
-      let l = items_come_before_draw steps once p.0 t x (rule.left_held x y v) b.of_left (lawful.left_held_is_none_or_given x y v) m b.left in
-      let r = items_come_before_draw others once_right p.1 u y (rule.right_held x y v) b.of_right (lawful.right_held_is_none_or_given x y v) n b.right in
+      let l = items_come_before_draw steps once p.0 t x (rule.left_held x y v) b.count_of_left (lawful.left_held_is_none_or_given x y v) m b.left in
+      let r = items_come_before_draw others once_right p.1 u y (rule.right_held x y v) b.count_of_right (lawful.right_held_is_none_or_given x y v) n b.right in
       record {
-        of_left = (held_count x - held_count (rule.left_held x y v)) + b.of_left;
-        of_right = (held_count y - held_count (rule.right_held x y v)) + b.of_right;
+        count_of_left = (held_count x - held_count (rule.left_held x y v)) + b.count_of_left;
+        count_of_right = (held_count y - held_count (rule.right_held x y v)) + b.count_of_right;
         left = l.0;
         right = r.0;
-        few = omega (arith, by p.2 g x y v z b.of_left b.of_right d is l.1 r.1, b.few);
+        few = omega (arith, by p.2 g x y v z b.count_of_left b.count_of_right d is l.1 r.1, b.few);
       }
 
   both_come_one_more_at_item : (p q : SidesState steps others rule) (z : C) (k : ℕ) → SidesStep steps others rule p (item z) q → BothCome q k → BothCome p (k + 1)
@@ -281,8 +287,8 @@ module _ {S U A B C E F V : Type 0} (steps : S → Answered A E → S → Type 0
 
   -- a run of items
   pub both_come : (zs : List C) (p q : SidesState steps others rule) → Yields (SidesStep steps others rule) p zs q → BothCome p (length zs)
-  both_come [] p q ran = record { of_left = 0; of_right = 0; left = record { came = []; left = p.0.0; ran = refl; many = omega arith }; right = record { came = []; left = p.1.0; ran = refl; many = omega arith }; few = omega arith }
-  both_come (z ∷ zs) p q ran = let b = both_come_one_more_at_item p ran.0 z (length zs) ran.1 (both_come zs ran.0 q ran.2) in record { of_left = b.of_left; of_right = b.of_right; left = b.left; right = b.right; few = omega (arith, b.few) }
+  both_come [] p q ran = record { count_of_left = 0; count_of_right = 0; left = record { came = []; left = p.0.0; ran = refl; many = omega arith }; right = record { came = []; left = p.1.0; ran = refl; many = omega arith }; few = omega arith }
+  both_come (z ∷ zs) p q ran = let b = both_come_one_more_at_item p ran.0 z (length zs) ran.1 (both_come zs ran.0 q ran.2) in record { count_of_left = b.count_of_left; count_of_right = b.count_of_right; left = b.left; right = b.right; few = omega (arith, b.few) }
 
 -- ---- hints of both sides
 
@@ -295,10 +301,10 @@ pub as_sound_as_both_sides : {S U A B C E F V : Type 0} (steps : S → Answered 
 as_sound_as_both_sides steps others once once_right rule lawful low high gives takes p h g k bounds = record {
   above = λ i j zs q ran.
       let b = both_come steps others once once_right rule high takes lawful zs p q ran in
-      bounds.above _ b.of_left b.of_right b.few (side_hint_above p.0.1 g b.of_left _ b.left.many (i b.left.came b.left.left b.left.ran)) (side_hint_above p.1.1 k b.of_right _ b.right.many (j b.right.came b.right.left b.right.ran));
+      bounds.above _ b.count_of_left b.count_of_right b.few (side_hint_above p.0.1 g b.count_of_left _ b.left.many (i b.left.came b.left.left b.left.ran)) (side_hint_above p.1.1 k b.count_of_right _ b.right.many (j b.right.came b.right.left b.right.ran));
   below = λ i j zs q r ran w.
       let b = both_end steps others rule low gives lawful zs p q r ran w in
-      bounds.below _ b.of_left b.of_right b.few (side_hint_below p.0.1 g b.of_left _ (i b.left.came b.left.left b.left.last b.left.ran b.left.ended) b.left.few) (side_hint_below p.1.1 k b.of_right _ (j b.right.came b.right.left b.right.last b.right.ran b.right.ended) b.right.few);
+      bounds.below _ b.count_of_left b.count_of_right b.few (side_hint_below p.0.1 g b.count_of_left _ (i b.left.came b.left.left b.left.last b.left.ran b.left.ended) b.left.few) (side_hint_below p.1.1 k b.count_of_right _ (j b.right.came b.right.left b.right.last b.right.ran b.right.ended) b.right.few);
 }
 
 -- ---- a join
@@ -459,7 +465,7 @@ module _ {S A E C R : Type 0} (m : Contract S A E) (turns : C → A → ControlF
 
     driven_at_last : (r : Answered A E) (answer : Answered R E) (d : C) → m.steps s r t → TurnedOn turns c r (Break answer) d → Driven m.steps turns s c answer t d
     driven_at_last (Ok None) answer d step w = rw (w.0, w.1) (driven_end step)
-    driven_at_last (Ok (Some x)) answer d step w = rw w.2 (driven_stop x step w.1)
+    driven_at_last (Ok (Some x)) answer d step w = rw w.2 (driven_of_first_break x step w.1)
     driven_at_last (Err e) answer d step w = rw (w.0, w.1) (driven_failure step)
 
     pub whole_where_turned_last : {answer : Answered R E} {d : C} → TurnedOn turns c r (Break answer) d → Driven m.steps turns s0 c0 answer t d

@@ -11,16 +11,15 @@ use Rattle.fallible_iterator.specs.SoundHints.{AsSoundAsBoth}
 use Rattle.fallible_iterator.specs.Sources.FromFn.{call_of_none}
 use Rattle.fallible_iterator.specs.Traces.{Answered, item, failure, end}
 use Rattle.fallible_iterator.specs.Fuse.{Fuse}
-use Rattle.fallible_iterator.proofs.Lemmas.Lists.ForGood.{lists_for_good_seen}
 use Rattle.fallible_itertools_joins.specs.Laws.ZipEq.{is_lawful_rule_pair}
-use Rattle.fallible_itertools_joins.specs.Sides.{fused_steps, side_hint}
+use Rattle.fallible_itertools_joins.specs.Sides.{side_hint}
 use Rattle.fallible_itertools_joins.specs.ZipEq.{AsksWhereAlone, failure_or_end, one_is_alone, pair_answer, pair_or, pair_rule, takes_none, zip_eq_contract, zip_eq_parts, zipped_equal}
 use Rattle.fallible_itertools_joins.specs.ZipLongest.{longest, longest_rule, zipped_longest}
 use Rattle.fallible_itertools_joins.specs.Laws.SidesTraces.{SidesStep}
 use Rattle.fallible_itertools_joins.specs.declared.zip_eq.ZipEq.{ZipEq}
 use Rattle.fallible_itertools_joins.specs.declared.zip_longest.EitherOrBoth.{EitherOrBoth}
 use Rattle.fallible_itertools_joins.specs.declared.zip_longest.EitherOrBoth.TheVariants.{Left, Right}
-use Rattle.fallible_itertools_joins.proofs.Lemmas.Sides.{Bounds, first_answer, rest_of, NoItemAfterEnd, ListsBy, as_sound_as_both_sides, gives_for_good_of_fresh, gives_for_good_sides, GivesAsMany, TakesAsMany}
+use Rattle.fallible_itertools_joins.proofs.Lemmas.Sides.{Bounds, first_answer, rest_of, NoItemAfterEnd, ListsBy, as_sound_as_both_sides, lists_for_good_sides, GivesAsMany, TakesAsMany}
 use Rattle.fallible_itertools_joins.proofs.Lemmas.ZipLongest.{lists_by_longest}
 
 module _ {A B E : Type 0} (e : E) where
@@ -114,4 +113,4 @@ module _ {S U F A B E : Type 0} (steps : S → Answered A E → S → Type 0) (o
 
 module _ {S U F A B E : Type 0} (left : Contract S A E) (right : Contract U B E) (g : Mut F (Unit {0}) E) (c : ZipEq S U F A E) {p : Fuse S} {q : Fuse U} (s : S) (u : U) (f : F) (e : E) (a : List (Result A E)) (b : List (Result B E)) where
   pub lists_for_good_zipped_equal : zip_eq_parts {B = B} c ≡ ((p, None), (q, None), f) → fuse_parts p ≡ (s, false) → fuse_parts q ≡ (u, false) → Acts (call_of_none g) f (λ _. e) → Lists left.steps s a → Lists right.steps u b → ListsForGood (seen_as zip_eq_parts (zip_eq_contract left right g)).steps c (zipped_equal e a b)
-  lists_for_good_zipped_equal parts fresh also acts i k = lists_for_good_seen zip_eq_parts (zip_eq_contract left right g).steps c parts refl (gives_for_good_sides (fused_steps left.steps) (fused_steps right.steps) (pair_rule (call_of_none g) (takes_none g)) (λ k. k ≡ f) (λ a b. zipped_equal e a b) (lists_by_pair e (call_of_none g) (takes_none g) f acts) (is_lawful_rule_pair (call_of_none g) (takes_none g)) ((p, None), (q, None), f) a b (gives_for_good_of_fresh left p s a fresh i) (gives_for_good_of_fresh right q u b also k) refl)
+  lists_for_good_zipped_equal parts fresh also acts i k = lists_for_good_sides left right (pair_rule (call_of_none g) (takes_none g)) (λ k. k ≡ f) (λ a b. zipped_equal e a b) (lists_by_pair e (call_of_none g) (takes_none g) f acts) (is_lawful_rule_pair (call_of_none g) (takes_none g)) zip_eq_parts c s u a b parts fresh also i k refl

@@ -6,13 +6,12 @@ use Rattle.fallible_iterator.specs.Contract.{Contract, seen_as}
 use Rattle.fallible_iterator.specs.Cutting.Fuse.{fuse_parts}
 use Rattle.fallible_iterator.specs.Lists.{Lists, ListsForGood}
 use Rattle.fallible_iterator.specs.SoundHints.{AsSoundAsBoth}
-use Rattle.fallible_iterator.proofs.Lemmas.Lists.ForGood.{lists_for_good_seen}
 use Rattle.fallible_iterator.specs.Fuse.{Fuse}
-use Rattle.fallible_itertools_joins.specs.Sides.{fused_steps, side_hint}
+use Rattle.fallible_itertools_joins.specs.Sides.{side_hint}
 use Rattle.fallible_itertools_joins.specs.ZipLongest.{greater_bound, hint_greater, longest_join, longest_rule, zip_longest_parts, zip_longest_contract, zipped_longest}
 use Rattle.fallible_itertools_joins.specs.Laws.ZipLongest.{is_lawful_rule_longest}
 use Rattle.fallible_itertools_joins.specs.Laws.SidesTraces.{SidesStep}
-use Rattle.fallible_itertools_joins.proofs.Lemmas.Sides.{Bounds, JoinsLists, NoItemAfterEnd, ListsBy, TakesAsMany, as_sound_as_both_sides, gives_as_many_join, gives_for_good_of_fresh, gives_for_good_sides, lists_by_join}
+use Rattle.fallible_itertools_joins.proofs.Lemmas.Sides.{Bounds, JoinsLists, NoItemAfterEnd, ListsBy, TakesAsMany, as_sound_as_both_sides, gives_as_many_join, lists_for_good_sides, lists_by_join}
 use Rattle.fallible_itertools_joins.specs.declared.zip_longest.ZipLongest.{ZipLongest}
 
 greater_bound_is_above_max : (a b : Option ℕ) (i j n : ℕ) → n ≤ max i j → IfSome a (λ m. i ≤ m) → IfSome b (λ m. j ≤ m) → IfSome (greater_bound a b) (λ m. n ≤ m)
@@ -52,4 +51,4 @@ module _ {S U A B E : Type 0} (steps : S → Answered A E → S → Type 0) (oth
 
 module _ {S U A B E : Type 0} (left : Contract S A E) (right : Contract U B E) (c : ZipLongest S U A E) {p : Fuse S} {q : Fuse U} (s : S) (u : U) (a : List (Result A E)) (b : List (Result B E)) where
   pub lists_for_good_zipped_longest : zip_longest_parts {B = B} c ≡ ((p, None), (q, None), tt) → fuse_parts p ≡ (s, false) → fuse_parts q ≡ (u, false) → Lists left.steps s a → Lists right.steps u b → ListsForGood (seen_as zip_longest_parts (zip_longest_contract left right)).steps c (zipped_longest a b)
-  lists_for_good_zipped_longest parts fresh also i k = lists_for_good_seen zip_longest_parts (zip_longest_contract left right).steps c parts refl (gives_for_good_sides (fused_steps left.steps) (fused_steps right.steps) longest_rule (λ f. f ≡ tt) zipped_longest lists_by_longest is_lawful_rule_longest ((p, None), (q, None), tt) a b (gives_for_good_of_fresh left p s a fresh i) (gives_for_good_of_fresh right q u b also k) refl)
+  lists_for_good_zipped_longest parts fresh also i k = lists_for_good_sides left right longest_rule (λ f. f ≡ tt) zipped_longest lists_by_longest is_lawful_rule_longest zip_longest_parts c s u a b parts fresh also i k refl

@@ -73,10 +73,10 @@ module _ {S F X R B E : Type 0} (front back : S → Answered X E → S → Type 
     listed : ListsBothEnds front back u (source_list others)
     steady : Steady call g (items_listed others)
 
-  asked_first_after_call : (asked : List (Result (X × R) E)) (s u : S) (f g : F) (x : X) (v : R) → ListsBothEnds front back s (source_list asked) → Steady call f (items_listed asked) → front s (item x) u → call f x v g → AskedFirst asked x v u g
-  asked_first_after_call [] s u f g x v i k step called = absurd (let e = (takes_first_front i step).0 in cc)
-  asked_first_after_call (Err e ∷ asked) s u f g x v i k step called = absurd (let e = (takes_first_front i step).0 in cc)
-  asked_first_after_call (Ok c ∷ asked) s u f g x v i k step called =
+  asked_first_of_steady_call : (asked : List (Result (X × R) E)) (s u : S) (f g : F) (x : X) (v : R) → ListsBothEnds front back s (source_list asked) → Steady call f (items_listed asked) → front s (item x) u → call f x v g → AskedFirst asked x v u g
+  asked_first_of_steady_call [] s u f g x v i k step called = absurd (let e = (takes_first_front i step).0 in cc)
+  asked_first_of_steady_call (Err e ∷ asked) s u f g x v i k step called = absurd (let e = (takes_first_front i step).0 in cc)
+  asked_first_of_steady_call (Ok c ∷ asked) s u f g x v i k step called =
       let h = takes_first_front i step in
       let same : x ≡ c.0 = (let e = h.0 in cc) in
       let answer = answer_of_steady_call_is_paired call c (items_listed asked) f g v k (subst (λ (z : X). call f z v g) same called) in
@@ -107,11 +107,11 @@ module _ {S F X R B E : Type 0} (front back : S → Answered X E → S → Type 
   pub takes_first_of_passed : (asked : List (Result (X × R) E)) (s t : S) (f g : F) (r : Answered B E) → ListsBothEnds front back s (source_list asked) → Steady call f (items_listed asked) → Passes front call outcome s f (r ∷ []) t g → TakesFirst (λ l. ListedByCalls (t, g) l) r (passed_list outcome asked)
   takes_first_of_passed asked s t f g _ i k (end_passes step done) = takes_first_of_passed_at_end asked s t f i step
   takes_first_of_passed asked s t f g _ i k (failure_passes e step done) = takes_first_of_passed_at_failure asked s t f e i k step
-  takes_first_of_passed asked s t f g _ i k (keeps x v y step called is done) = takes_first_of_passed_by_outcome asked t g x v (Ok y) (item y) (asked_first_after_call asked s t f g x v i k step called) (ap outcome_listed is) (λ l h. (refl, h))
-  takes_first_of_passed asked s t f g _ i k (refuses x v e step called is done) = takes_first_of_passed_by_outcome asked t g x v (Err e) (Err e) (asked_first_after_call asked s t f g x v i k step called) (ap outcome_listed is) (λ l h. (refl, h))
+  takes_first_of_passed asked s t f g _ i k (keeps x v y step called is done) = takes_first_of_passed_by_outcome asked t g x v (Ok y) (item y) (asked_first_of_steady_call asked s t f g x v i k step called) (ap outcome_listed is) (λ l h. (refl, h))
+  takes_first_of_passed asked s t f g _ i k (refuses x v e step called is done) = takes_first_of_passed_by_outcome asked t g x v (Err e) (Err e) (asked_first_of_steady_call asked s t f g x v i k step called) (ap outcome_listed is) (λ l h. (refl, h))
   takes_first_of_passed asked s t f g _ i k (closes x v step called is done) = absurd (never_ends x v is)
   takes_first_of_passed asked s t f g r i k (leaves_out {u = u} {h = h} x v step called is rest) =
-      let a = asked_first_after_call asked s u f h x v i k step called in
+      let a = asked_first_of_steady_call asked s u f h x v i k step called in
       let same : passed_list outcome asked ≡ passed_list outcome a.others = a.list_is ∙ ap (λ (o : Outcome B E). cons_option (outcome_listed o) (passed_list outcome a.others)) is in
       subst (λ (l : List (Result B E)). TakesFirst (λ l. ListedByCalls (t, g) l) r l) (sym same) (takes_first_of_passed a.others u t h g r a.listed a.steady rest)
 

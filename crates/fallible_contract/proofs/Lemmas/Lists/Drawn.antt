@@ -77,21 +77,21 @@ module _ {A E : Type 0} where
   collected_is_failure_after_items (x ∷ items) rest e = ap (before x) (collected_is_failure_after_items items rest e)
 
 module _ {S A E C : Type 0} {steps : S → Answered A E → S → Type 0} (made : List A → C → Type 0) (empty_refuses : Type 0) (refuses : C → A → Type 0) {s : S} where
-  collected_by : (r : Result C (Fault E)) (l : List (Result A E)) → Collects steps made empty_refuses refuses s r → Lists steps s l → CollectedBy made l r
-  collected_by (Ok c) l k i = let d = drawn_of_lists steps k.items (Ok None) l s k.after i.runs k.ran in
+  collected_as_of_collects : (r : Result C (Fault E)) (l : List (Result A E)) → Collects steps made empty_refuses refuses s r → Lists steps s l → CollectedBy made l r
+  collected_as_of_collects (Ok c) l k i = let d = drawn_of_lists steps k.items (Ok None) l s k.after i.runs k.ran in
       (k.items, ap collected d.list_is ∙ ap (λ (rest : _). collected (map (λ x. Ok x) k.items ++ rest)) d.rest_is ∙ collected_items k.items, k.is_made)
-  collected_by (Err (Source e)) l k i = let d = drawn_of_lists steps k.items (Err e) l s k.after i.runs k.ran in
+  collected_as_of_collects (Err (Source e)) l k i = let d = drawn_of_lists steps k.items (Err e) l s k.after i.runs k.ran in
       ap collected d.list_is ∙ ap (λ (rest : _). collected (map (λ x. Ok x) k.items ++ rest)) d.rest_is.1 ∙ collected_is_failure_after_items k.items d.rest_is.0 e
-  collected_by (Err (Memory a)) l k i = tt
+  collected_as_of_collects (Err (Memory a)) l k i = tt
 
   pub collected_of_lists : (r : Result C (Fault E)) (l : List (Result A E)) → Collects steps made empty_refuses refuses s r → Lists steps s l → CollectedAs made l r
   unfolding CollectedAs
-  collected_of_lists r l k i = collected_by r l k i
+  collected_of_lists r l k i = collected_as_of_collects r l k i
 
 module _ {S A B E C D : Type 0} {steps : S → Answered (A × B) E → S → Type 0} (made_first : List A → C → Type 0) (made_second : List B → D → Type 0) (empty_refuses : Type 0) (refuses : C × D → A × B → Type 0) {s : S} where
   pub unzipped_of_lists : (r : Result (C × D) (Fault E)) (l : List (Result (A × B) E)) → Collects steps (MadeOfPairs made_first made_second) empty_refuses refuses s r → Lists steps s l → UnzippedAs made_first made_second l r
   unfolding UnzippedAs
-  unzipped_of_lists r l k i = collected_by (MadeOfPairs made_first made_second) empty_refuses refuses r l k i
+  unzipped_of_lists r l k i = collected_as_of_collects (MadeOfPairs made_first made_second) empty_refuses refuses r l k i
 
 -- want of memory says nothing of the list
 pub unzipped_as_refused : {A B E C D : Type 0} (made_first : List A → C → Type 0) (made_second : List B → D → Type 0) (l : List (Result (A × B) E)) (a : AllocError) → UnzippedAs made_first made_second l (Err (Memory a))

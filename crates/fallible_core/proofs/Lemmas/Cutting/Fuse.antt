@@ -1,6 +1,5 @@
--- The runs of `Fuse` are the traces that its definition names, and what it lists.
-use Rattle.std.specs.Prelude.{◌≡◌, Bool, true, false, List, [], ◌∷◌, Result, Ok, Err, ◌↔◌}
-use Rattle.std.specs.List.{FoldsTo}
+-- What `Fuse` lists.
+use Rattle.std.specs.Prelude.{◌≡◌, Bool, true, false, List, [], ◌∷◌, Result, Ok, Err}
 use Rattle.std.proofs.Common.{refl, sym, ap, subst, ◌∙◌}
 use Rattle.fallible_contract.specs.Contract.{Contract, parts_as}
 use Rattle.fallible_contract.specs.Lists.{AlwaysGives, Lists, GivesForGood, ListsForGood, result_answer}
@@ -8,12 +7,8 @@ use Rattle.fallible_contract.proofs.Lemmas.Lists.Passing.{lists_seen}
 use Rattle.fallible_contract.proofs.Lemmas.Lists.ForGood.{lists_for_good_seen}
 use Rattle.fallible_contract.specs.Traces.{Answered, Run, end, is_end}
 use Rattle.fallible_contract.specs.Closing.{closing_step}
-use Rattle.fallible_contract.proofs.Lemmas.Closing.{closing_folds_iff_drawn_to_close}
-use Rattle.fallible_core.specs.Cutting.Fuse.{FuseTrace, fuse_parts, fuse_contract}
+use Rattle.fallible_core.specs.Cutting.Fuse.{fuse_parts, fuse_contract}
 use Rattle.fallible_core.specs.declared.cutting.fuse.Fuse.{Fuse}
-
-pub fuse_law : {S A E : Type 0} (steps : S → Answered A E → S → Type 0) (p : S × Bool) (trace : List (Answered A E)) (q : S × Bool) → FoldsTo (closing_step steps (λ r. r) is_end) p trace q ↔ FuseTrace steps p trace q
-fuse_law steps p trace q = let law = closing_folds_iff_drawn_to_close steps (λ r. r) is_end p.0 p.1 trace q.0 q.1 in ((λ h. let d = law.0 h in record { source_trace = d.0; drawn = d.1; cut = d.2 }), (λ h. law.1 (h.source_trace, h.drawn, h.cut)))
 
 -- ---- what it lists
 

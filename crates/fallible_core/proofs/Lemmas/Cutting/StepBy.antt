@@ -1,16 +1,12 @@
--- `StepBy`: its runs are the traces that its definition names.
-use Rattle.std.specs.Prelude.{◌≡◌, ℕ, zero, suc, ◌+◌, ◌-◌, ◌*◌, ◌%◌, ◌≤◌, ◌⊎◌, true, false, List, [], ◌∷◌, Some, None, Result, Ok, Err, ◌↔◌}
-use Rattle.std.proofs.Common.{refl, sym, ap, subst, arith, inl, inr, ◌∙◌}
-use Rattle.std.proofs.lemmas.Bool.{lt-ltb, le-ltb, le-leb, lt-leb}
-use Rattle.std.proofs.Math.Dec.{eqb-suc-zero}
-use Rattle.std.proofs.Math.Nat.{mul-add-mod_self_left, mod-eq_of_lt}
-use Rattle.fallible_contract.specs.Traces.{Answered, Run}
+-- A draw of `StepBy`, and what it lists.
+use Rattle.std.specs.Prelude.{◌≡◌, ℕ, List, [], ◌∷◌, Some, None, Result, Ok, Err}
+use Rattle.std.proofs.Common.{refl, sym, subst}
+use Rattle.fallible_contract.specs.Traces.{Answered}
 use Rattle.fallible_contract.specs.Contract.{Contract, parts_as}
 use Rattle.fallible_contract.specs.Lists.{AlwaysGives, Lists}
 use Rattle.fallible_contract.proofs.Lemmas.Lists.Passing.{lists_seen}
-use Rattle.fallible_contract.specs.Laws.LawForm.{IsByAnswers, run_at_one_answer_iff_law}
-use Rattle.fallible_contract.proofs.Lemmas.ByNumber.{Fits, Leaves, leaves_from_equal, none, keeps_item, keeps_end, keeps_failure, leaves_out, leaves_nil_same, leaves_first_and_others, leaves_split, kept_by_number_of_leaves, leaves_of_kept_by_number}
-use Rattle.fallible_core.specs.Cutting.StepBy.{keeps_at_steps, to_skip_after, StepByTrace, step_by_step, step_by_parts, step_by_contract, stepped}
+use Rattle.fallible_contract.proofs.Lemmas.ByNumber.{Leaves, leaves_from_equal, none, keeps_item, keeps_end, keeps_failure, leaves_out, leaves_nil_same}
+use Rattle.fallible_core.specs.Cutting.StepBy.{StepByTrace, step_by_step, step_by_parts, step_by_contract, stepped}
 use Rattle.fallible_core.specs.Cutting.Skip.{SkipTrace}
 use Rattle.fallible_core.specs.Laws.Cutting.Skip.{leaves_of_skip_trace}
 use Rattle.fallible_core.proofs.Lemmas.Cutting.ByNumber.{leaves_one, always_gives_stepped}

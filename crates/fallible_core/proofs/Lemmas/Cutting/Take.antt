@@ -1,11 +1,11 @@
--- The runs of `Take` are the traces that its definition names.
-use Rattle.std.specs.Prelude.{ℕ, Some, ◌≡◌, zero, suc, ◌+◌, ◌<◌, List, [], ◌∷◌, ◌++◌, replicate, None, Ok, Err, ◌↔◌}
+-- What `Take` lists.
+use Rattle.std.specs.Prelude.{ℕ, Some, ◌≡◌, zero, suc, ◌+◌, List, [], ◌∷◌, Ok, Err}
 use Rattle.std.proofs.Common.{refl, ap, subst, arith}
 use Rattle.fallible_contract.specs.Contract.{Contract, parts_as}
 use Rattle.fallible_contract.specs.Lists.{AlwaysGives, Lists, Repeats, repeated}
 use Rattle.fallible_contract.proofs.Lemmas.Lists.Passing.{lists_seen}
-use Rattle.fallible_contract.specs.Traces.{Answered, Run, end, items_in}
-use Rattle.fallible_core.specs.Cutting.Take.{taken, TakeTrace, take_step, take_parts, take_contract}
+use Rattle.fallible_contract.specs.Traces.{Answered, items_in}
+use Rattle.fallible_core.specs.Cutting.Take.{taken, take_step, take_parts, take_contract}
 use Rattle.std.specs.declared.result.Result.{Result}
 use Rattle.fallible_core.specs.declared.cutting.take.Take.{Take}
 

@@ -1,18 +1,16 @@
--- The runs of `TakeWhile` are the traces that its definition names, and what it lists.
-use Rattle.std.specs.Prelude.{◌≡◌, Bool, true, false, List, [], ◌∷◌, map, Result, Ok, Err, ◌↔◌}
-use Rattle.std.specs.List.{FoldsTo, filter_map}
+-- What `TakeWhile` lists.
+use Rattle.std.specs.Prelude.{◌≡◌, Bool, true, false, List, [], ◌∷◌, Result, Ok, Err}
 use Rattle.std.specs.Fn.{Mut}
 use Rattle.std.specs.Borrow.{Bor}
 use Rattle.std.proofs.Common.{refl, sym, ap, subst, ◌∙◌}
 use Rattle.fallible_contract.specs.Contract.{Contract, parts_as}
 use Rattle.fallible_contract.specs.Lists.{AlwaysGives, Lists, Acts, result_answer}
 use Rattle.fallible_contract.proofs.Lemmas.Lists.Passing.{passed, by_outcome, lists_seen, always_gives_passed}
-use Rattle.fallible_contract.specs.Traces.{Answered, Run}
-use Rattle.fallible_contract.specs.Closures.{Calls, call_by_reference}
-use Rattle.fallible_contract.specs.Passing.{LeavesNoneOut, Place, asked, failure_at, end_at, source_answer, call_of, passing_step}
+use Rattle.fallible_contract.specs.Traces.{Answered}
+use Rattle.fallible_contract.specs.Closures.{call_by_reference}
+use Rattle.fallible_contract.specs.Passing.{LeavesNoneOut, Place, asked, failure_at, end_at, passing_step}
 use Rattle.fallible_contract.specs.Closing.{closing_step}
-use Rattle.fallible_contract.proofs.Lemmas.Closing.{closing_folds_iff_drawn_to_close}
-use Rattle.fallible_core.specs.Cutting.TakeWhile.{cons_while, taken_while, take_while_outcome, taken_answer, is_refused, TakeWhileTrace, place_drawn, take_while_parts, take_while_contract}
+use Rattle.fallible_core.specs.Cutting.TakeWhile.{cons_while, taken_while, take_while_outcome, taken_answer, is_refused, place_drawn, take_while_parts, take_while_contract}
 use Rattle.fallible_core.specs.declared.cutting.take_while.TakeWhile.{TakeWhile}
 
 -- ---- what it lists

@@ -46,8 +46,8 @@ pub holds_each_turn_drawing : {S F X V B E : Type 0} {m : Contract S X E} {call 
 holds_each_turn_drawing {call = call} outcome l can callable = holds_each_turn_by_implication (item_passed_of_drawing call outcome) (λ g x p. p) (holds_each_turn_callable outcome l can callable)
 
 -- a fold by that turn is one draw
-pub pass_trace_drawing : {S F X V B E : Type 0} {steps : S → Answered X E → S → Type 0} {call : F → X → V → F → Type 0} (outcome : X → V → Outcome B E) {s t : S} {f g : F} {answer : Answered (Answered B E) E} {r : Answered B E} → Driven steps (DrawingTurn call outcome) s f answer t g → r ≡ within answer → PassTrace steps call outcome (s, f) (r ∷ []) (t, g)
-pass_trace_drawing {steps = steps} {call = call} outcome {s = s} {t = t} {f = f} {g = g} {answer = answer} {r = r} driven is = subst (λ (z : Answered _ _). PassTrace steps call outcome (s, f) (z ∷ []) (t, g)) (sym is)
+pub pass_trace_of_drawing : {S F X V B E : Type 0} {steps : S → Answered X E → S → Type 0} {call : F → X → V → F → Type 0} (outcome : X → V → Outcome B E) {s t : S} {f g : F} {answer : Answered (Answered B E) E} {r : Answered B E} → Driven steps (DrawingTurn call outcome) s f answer t g → r ≡ within answer → PassTrace steps call outcome (s, f) (r ∷ []) (t, g)
+pass_trace_of_drawing {steps = steps} {call = call} outcome {s = s} {t = t} {f = f} {g = g} {answer = answer} {r = r} driven is = subst (λ (z : Answered _ _). PassTrace steps call outcome (s, f) (z ∷ []) (t, g)) (sym is)
     (step_of_first_drawn (source_fold_drives_adapter {turns = StopsWithItem} {p = (tt, f)} {q = (tt, g)} (drained_by_implication (λ items last w. record { carried = (tt, w.carried); went = folds_to_folding_turns_of_drawing call outcome items f w.carried w.went; exit = drive_exit_of_folding_of_drawing call outcome last w.carried g answer w.exit }) driven)))
 
 -- ---- `FilterMap`
@@ -78,5 +78,5 @@ module _ {S F X B E : Type 0} {call : F → X → Result (Option B) E → F → 
   pub holds_each_turn_filter_map : {m : Contract S X E} {pre : F → X → Type 0} {s : S} {f : F} → Lawful m → m.can_next s → IsCallable call pre (m.may_give s) f → HoldsAtEachTurn m.steps (goes_on (IsSearchTurn call find_map_pick)) pre s f
   holds_each_turn_filter_map l can callable = holds_each_turn_by_implication (item_passed_of_search call) (λ g x p. p) (holds_each_turn_callable filter_map_outcome l can callable)
 
-  pub pass_trace_filter_map : {steps : S → Answered X E → S → Type 0} {s t : S} {f g : F} {answer : Answered (Answered B E) E} {r : Answered B E} → Driven steps (IsSearchTurn call find_map_pick) s f answer t g → r ≡ within answer → PassTrace steps call filter_map_outcome (s, f) (r ∷ []) (t, g)
-  pass_trace_filter_map {f = f} {g = g} {answer = answer} driven is = pass_trace_drawing filter_map_outcome (drained_by_implication (λ items last w. record { carried = w.carried; went = folds_to_by_implication (λ d x e k. drawing_turn_by_search call d x (Continue tt) e k) items f w.carried w.went; exit = drive_exit_by_search call last w.carried g answer w.exit }) driven) is
+  pub pass_trace_of_filter_map : {steps : S → Answered X E → S → Type 0} {s t : S} {f g : F} {answer : Answered (Answered B E) E} {r : Answered B E} → Driven steps (IsSearchTurn call find_map_pick) s f answer t g → r ≡ within answer → PassTrace steps call filter_map_outcome (s, f) (r ∷ []) (t, g)
+  pass_trace_of_filter_map {f = f} {g = g} {answer = answer} driven is = pass_trace_of_drawing filter_map_outcome (drained_by_implication (λ items last w. record { carried = w.carried; went = folds_to_by_implication (λ d x e k. drawing_turn_by_search call d x (Continue tt) e k) items f w.carried w.went; exit = drive_exit_by_search call last w.carried g answer w.exit }) driven) is

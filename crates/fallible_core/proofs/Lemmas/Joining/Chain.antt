@@ -1,15 +1,14 @@
--- The runs of `Chain` are the traces that its definition names.
-use Rattle.std.specs.Prelude.{◌≡◌, ◌≢◌, true, false, List, [], ◌∷◌, ◌++◌, ◌↔◌, Result, Ok, Err}
+-- The parts of `Chain`, from the front and from the back, and what it lists.
+use Rattle.std.specs.Prelude.{◌≡◌, true, false, List, [], ◌∷◌, Result, Ok, Err}
 use Rattle.std.proofs.Common.{refl, sym, ap, subst, inl, inr}
 use Rattle.fallible_contract.specs.Contract.{Contract, parts_as}
 use Rattle.fallible_contract.specs.Lists.{AlwaysGives, Lists, result_answer}
 use Rattle.fallible_contract.proofs.Lemmas.Lists.Passing.{lists_seen}
-use Rattle.fallible_contract.specs.Traces.{Answered, Run, end, NoEnd, is_end}
-use Rattle.fallible_core.specs.Joining.Chain.{chained, JoinedTrace, ChainTrace, chain_step, chain_parts, chain_back, chain_contract}
-use Rattle.fallible_core.specs.Laws.Joining.ChainTraces.{chain_back_twice}
+use Rattle.fallible_contract.specs.Traces.{Answered, end, is_end}
+use Rattle.fallible_core.specs.Joining.Chain.{chained, chain_step, chain_parts, chain_back, chain_contract}
 use Rattle.fallible_core.specs.declared.joining.chain.Chain.{Chain}
 use Rattle.fallible_core.specs.declared.joining.chain.StillDrawn.{StillDrawn}
-use Rattle.fallible_core.specs.declared.joining.chain.StillDrawn.TheVariants.{Both, FirstAlone, SecondAlone}
+use Rattle.fallible_core.specs.declared.joining.chain.StillDrawn.TheVariants.{Both, SecondAlone}
 
 -- ---- values and their parts, from the front and from the back
 

@@ -21,9 +21,6 @@ still_drawn_is_both Both second first = refl
 still_drawn_is_both FirstAlone second first = absurd (first refl)
 still_drawn_is_both SecondAlone second first = absurd (second refl)
 
-pub both_not_second : {d : StillDrawn} → d ≡ Both → d ≡ SecondAlone → ⊥
-both_not_second is second = absurd cc
-
 -- from the back the second comes first
 pub sides_back_is_never_second_alone : (d : StillDrawn) → (d ≡ FirstAlone → ⊥) → sides_back d ≡ SecondAlone → ⊥
 sides_back_is_never_second_alone Both first e = absurd cc
@@ -131,8 +128,8 @@ module _ {S U A E : Type 0} (steps : S → Answered A E → S → Type 0) (other
     holds_each_turn_both h = holds_at_each_turn_of_held (λ (z : S). (z, u, Both)) (λ p x q step. inl (step, refl, refl, refl)) h
 
     -- and after draws of the first that met its end, at each turn over the second
-    holds_each_turn_past_first_end : {before : List A → Answered A E → Type 0} {t : S} {d : C} → ((items : List A) (met : Answered A E) → before items met → (met ≡ end) × FoldsTo on c items d) → Drained steps before s t → HoldsAtEachTurn StepOfChainFolds on P (s, u, Both) c → HoldsAtEachTurn others on P u d
-    holds_each_turn_past_first_end {t = t} met f h =
+    holds_past_end_of_first : {before : List A → Answered A E → Type 0} {t : S} {d : C} → ((items : List A) (met : Answered A E) → before items met → (met ≡ end) × FoldsTo on c items d) → Drained steps before s t → HoldsAtEachTurn StepOfChainFolds on P (s, u, Both) c → HoldsAtEachTurn others on P u d
+    holds_past_end_of_first {t = t} met f h =
         let over = met f.items f.last f.at in
         let first = yields_first steps f.items f.last s t f.ran in
         let ended = subst (λ (r : Answered A E). steps first.0 r t) over.0 first.2 in
@@ -178,7 +175,7 @@ module _ {V S U A E : Type 0} (view : V → S × U × StillDrawn) (make : S × U
 
     -- after draws of the first that met its end
     pub holds_each_turn_second : {before : List A → Answered A E → Type 0} {t : S} {d : C} → (view s).2 ≡ Both → ((items : List A) (met : Answered A E) → before items met → (met ≡ end) × FoldsTo on c items d) → Drained first.steps before (view s).0 t → HoldsAtEachTurn ChainStep on P s c → HoldsAtEachTurn second.steps on P (view s).1 d
-    holds_each_turn_second is met f h = holds_each_turn_past_first_end first.steps second.steps met f (holds_each_turn_parts is h)
+    holds_each_turn_second is met f h = holds_past_end_of_first first.steps second.steps met f (holds_each_turn_parts is h)
 
   module _ {came : List A → Answered A E → Type 0} {s w : V} where
     drained_parts : {p q : S × U × StillDrawn} → view s ≡ p → view w ≡ q → Drained (chain_step first.steps second.steps) came p q → Drained ChainStep came s w

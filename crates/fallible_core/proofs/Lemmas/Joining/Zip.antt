@@ -1,12 +1,11 @@
--- The runs of `Zip` are the traces that its definition names.
-use Rattle.std.specs.Prelude.{◌≡◌, List, [], ◌∷◌, map, ◌↔◌, Some, None, Result, Ok, Err}
-use Rattle.std.specs.List.{filter_map}
+-- What `Zip` lists.
+use Rattle.std.specs.Prelude.{◌≡◌, List, [], ◌∷◌, Some, None, Result, Ok, Err}
 use Rattle.std.proofs.Common.{refl, ap, ◌∙◌}
-use Rattle.fallible_contract.specs.Traces.{Answered, Run, end}
+use Rattle.fallible_contract.specs.Traces.{Answered, end}
 use Rattle.fallible_contract.specs.Contract.{Contract, parts_as}
 use Rattle.fallible_contract.specs.Lists.{AlwaysGives, Lists, items}
 use Rattle.fallible_contract.proofs.Lemmas.Lists.Passing.{lists_seen}
-use Rattle.fallible_core.specs.Joining.Zip.{zipped, NoFailureAtEnd, ZipPlace, left_failed, both_drawn, left_answer, right_answer, zip_answer, ZipTrace, right_step, zip_step, zip_parts, zip_contract}
+use Rattle.fallible_core.specs.Joining.Zip.{zipped, NoFailureAtEnd, ZipPlace, left_failed, both_drawn, left_answer, zip_answer, right_step, zip_step, zip_parts, zip_contract}
 use Rattle.fallible_core.specs.declared.joining.zip.Zip.{Zip}
 
 -- ---- what it lists

@@ -1,11 +1,10 @@
--- The runs of `Enumerate` are the traces that its definition names, and what it lists.
+-- A draw of `Enumerate`, and what it lists.
 use Rattle.std.specs.Prelude.{◌≡◌, ℕ, ◌+◌, List, [], ◌∷◌, Result, Some, None, Ok, Err}
-use Rattle.std.proofs.Common.{refl, sym, ap, subst, arith}
+use Rattle.std.proofs.Common.{refl, sym, ap, subst}
 use Rattle.fallible_contract.specs.Contract.{Contract, parts_as}
 use Rattle.fallible_contract.specs.Lists.{AlwaysGives, Lists}
 use Rattle.fallible_contract.proofs.Lemmas.Lists.Passing.{lists_seen}
 use Rattle.fallible_contract.specs.Traces.{Answered, item}
-use Rattle.fallible_contract.specs.Laws.LawForm.{FirstOf, IsByAnswers}
 use Rattle.fallible_core.specs.OneToOne.Enumerate.{numbered, EnumerateTrace, enumerate_parts, enumerate_contract}
 use Rattle.fallible_core.specs.Laws.OneToOne.Enumerate.{NumberedTrace, numbered_none, numbered_item, numbered_end, numbered_failure, numbered_trace_of_enumerate_trace, enumerate_trace_of_numbered}
 use Rattle.fallible_core.specs.declared.one_to_one.enumerate.Enumerate.{Enumerate}

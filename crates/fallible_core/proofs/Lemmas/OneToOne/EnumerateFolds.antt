@@ -9,7 +9,7 @@ use Rattle.fallible_contract.specs.Folds.{HoldsAtEachTurn, goes_on, OverExit, Co
 use Rattle.fallible_contract.specs.Folding.{FoldingTurn, FoldingTakes}
 use Rattle.fallible_contract.specs.Laws.Passing.{Passes, done, end_passes, failure_passes, keeps, refuses, closes, leaves_out, passes_of_pass_trace}
 use Rattle.fallible_contract.proofs.Lemmas.Folds.{holds_each_turn_below}
-use Rattle.fallible_contract.proofs.Lemmas.Folding.{takes_where_reached}
+use Rattle.fallible_contract.proofs.Lemmas.Folding.{takes_where_callable_when_reached}
 use Rattle.fallible_core.specs.OneToOne.Enumerate.{IsNumberable, number_call, number_outcome, number_takes}
 use Rattle.fallible_core.proofs.Lemmas.OneToOne.Enumerate.{enumerate_trace_item, enumerate_trace_end, enumerate_trace_failure, numbered_step}
 use Rattle.std.specs.declared.ops.ControlFlow.{ControlFlow}
@@ -48,7 +48,7 @@ module _ {S A E C R : Type 0} {m : Contract S A E} (l : Lawful m) (turns : C →
   -- The numbers of all items to come fit, so each item may be counted, and the caller's turn be taken on it and its number.
   pub holds_each_turn_numbered : {P : C → ℕ × A → Type 0} {s : S} {n : ℕ} {c : C} → IsNumberable m s n → HoldsAtEachTurn (passing_step m.steps number_call number_outcome) (goes_on turns) P (s, n) c
       → HoldsAtEachTurn m.steps (goes_on (FoldingTurn {E = E} number_call number_outcome turns)) (FoldingTakes {E = E} number_call number_outcome number_takes P) s (c, n)
-  holds_each_turn_numbered {P = P} {s = s} {n = n} {c = c} can holds = takes_where_reached number_call number_outcome turns (λ k x. number_takes k x)
+  holds_each_turn_numbered {P = P} {s = s} {n = n} {c = c} can holds = takes_where_callable_when_reached number_call number_outcome turns (λ k x. number_takes k x)
       (λ items t u p x ran went step. let k = count_folds_and_rises_with_number items (c, n) p 0 went in let below = (holds_each_turn_below {m = m} can.bound l can.can_next (inl can.bounds)).at items t u k.0 x ran k.1 step in let fits = can.fits in omega (arith, below, k.2, fits)) holds
 
 -- ---- `count`

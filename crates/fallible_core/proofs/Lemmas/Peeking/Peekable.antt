@@ -1,15 +1,15 @@
--- `Peekable`: what is left after a look ahead, and its runs, which are the traces that its definition names.
-use Rattle.std.specs.Prelude.{◌≡◌, List, [], ◌∷◌, ◌++◌, Option, Result, MatchResult, option_copied, Some, None, Ok, Err, Bool, true, false, ◌↔◌}
+-- `Peekable`: what is left after a look ahead, and what it lists.
+use Rattle.std.specs.Prelude.{◌≡◌, List, [], ◌∷◌, Option, Result, MatchResult, option_copied, Some, None, Ok, Err, Bool, true, false}
 use Rattle.std.specs.Option.{option_copied_mut}
 use Rattle.std.specs.Borrow.{Bor, MutBor}
 use Rattle.std.specs.Fn.{Shared, FnReturnsAt}
 use Rattle.std.proofs.Common.{refl, sym, ap, subst, arith, inl, inr}
-use Rattle.fallible_contract.specs.Traces.{Answered, Run, item, end}
+use Rattle.fallible_contract.specs.Traces.{Answered, item, end}
 use Rattle.fallible_contract.specs.Contract.{Contract, KeptByDraw, NeverFails, Stays, Lawful, parts_as}
 use Rattle.fallible_contract.specs.Lists.{AlwaysGives, Lists}
 use Rattle.fallible_contract.proofs.Lemmas.Lists.Passing.{lists_seen}
 use Rattle.fallible_contract.specs.Laws.Contract.{stays_by_draw_first, stays_reflexive}
-use Rattle.fallible_core.specs.Peeking.Peekable.{peekable_parts, held_answers, held_then, PeekableTrace, peekable_step, peekable_contract, seen, seen_mut, failure_told, held_of, held_item, Fills, Peeks, Looks, TakenIf, NextIf}
+use Rattle.fallible_core.specs.Peeking.Peekable.{peekable_parts, held_then, peekable_step, peekable_contract, seen, seen_mut, failure_told, held_of, held_item, Fills, Peeks, Looks, TakenIf, NextIf}
 use Rattle.fallible_core.specs.Laws.Peeking.Peekable.{kept_by_draw_drawn}
 use Rattle.fallible_core.specs.declared.peeking.peekable.Peekable.{Peekable}
 

@@ -5,7 +5,7 @@ use Rattle.fallible_contract.specs.Traces.{Answered}
 use Rattle.fallible_contract.specs.Contract.{Contract, parts_as}
 use Rattle.fallible_contract.specs.Folds.{Drained, HoldsAtEachTurn, goes_on, Driven}
 use Rattle.fallible_contract.proofs.Lemmas.Folding.{holds_at_each_turn_of_held, drained_of_holder}
-use Rattle.fallible_contract.proofs.Lemmas.Folds.{holds_at_first_turn, holds_each_turn_after_item, driven_by_item_first, driven_stop}
+use Rattle.fallible_contract.proofs.Lemmas.Folds.{holds_at_first_turn, holds_each_turn_after_item, driven_by_item_first, driven_of_first_break}
 use Rattle.fallible_core.specs.Peeking.Peekable.{peekable_parts, peekable_contract}
 use Rattle.std.specs.declared.ops.ControlFlow.{ControlFlow}
 use Rattle.std.specs.declared.ops.ControlFlow.TheVariants.{Break}
@@ -39,7 +39,7 @@ module _ {S A E : Type 0} (m : Contract S A E) (s : Peekable S A E) where
 
     -- a held item on which the turn stops
     pub driven_stops_at_held_item : {stop : R} (x : A) → s.held ≡ Some (Some x) → turns c x (Break stop) d → Driven steps_of_peekable_folds turns s c (Ok (Some stop)) (bare_of_peekable_folds s.it) d
-    driven_stops_at_held_item {stop = stop} x is turn = subst (λ (o : Option (Option A)). Driven steps_of_peekable_folds turns (with_held o) c (Ok (Some stop)) (bare_of_peekable_folds s.it) d) (sym is) (driven_stop x (refl, refl, refl) turn)
+    driven_stops_at_held_item {stop = stop} x is turn = subst (λ (o : Option (Option A)). Driven steps_of_peekable_folds turns (with_held o) c (Ok (Some stop)) (bare_of_peekable_folds s.it) d) (sym is) (driven_of_first_break x (refl, refl, refl) turn)
 
   module _ {C : Type 0} {on : C → A → C → Type 0} {P : C → A → Type 0} {c : C} where
     -- what holds at each turn holds at each of the source, where nothing is held

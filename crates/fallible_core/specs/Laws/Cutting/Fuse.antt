@@ -1,9 +1,8 @@
 -- The contract of `Fuse` is lawful where the source's is.
-use Rattle.std.specs.Prelude.{List, Some, None, Ok, Err}
-use Rattle.std.proofs.Common.{refl}
+use Rattle.std.specs.Prelude.{List}
 use Rattle.fallible_contract.specs.Traces.{Answered, is_end}
-use Rattle.fallible_contract.specs.Contract.{Contract, OnAnswer, KeptByDraw, Lawful}
-use Rattle.fallible_contract.specs.Closing.{closing_step, closing_contract}
+use Rattle.fallible_contract.specs.Contract.{Contract, Lawful}
+use Rattle.fallible_contract.specs.Closing.{closing_step}
 use Rattle.fallible_contract.specs.Laws.LawForm.{IsTraced}
 use Rattle.fallible_contract.specs.Laws.Closing.{lawful_closing}
 use Rattle.fallible_contract.proofs.Lemmas.Closing.{closing_folds_iff_drawn_to_close}

@@ -1,7 +1,7 @@
 -- The runs of `Chain` are its definition, over all that its sides return.
-use Rattle.std.specs.Prelude.{◌≡◌, ◌≢◌, true, false, List, [], ◌∷◌, ◌++◌, ◌↔◌}
+use Rattle.std.specs.Prelude.{◌≡◌, ◌≢◌, false, List, [], ◌∷◌, ◌++◌, ◌↔◌}
 use Rattle.std.proofs.Common.{refl, sym, ap, subst, inl, inr}
-use Rattle.fallible_contract.specs.Traces.{Answered, Run, first_of, end, NoEnd, is_end}
+use Rattle.fallible_contract.specs.Traces.{Answered, Run, end, NoEnd, is_end}
 use Rattle.fallible_contract.specs.Laws.LawForm.{IsTraced, run_of_whole_list, list_is_trace}
 use Rattle.fallible_core.specs.Joining.Chain.{JoinedTrace, ChainTrace, chains_all, chain_step, chain_back}
 use Rattle.fallible_core.specs.declared.joining.chain.StillDrawn.{StillDrawn}

@@ -4,7 +4,7 @@ use Rattle.std.specs.Fn.{Mut}
 use Rattle.fallible_contract.specs.Contract.{Contract, Lawful}
 use Rattle.fallible_contract.specs.Laws.Contract.{lawful_parts}
 use Rattle.fallible_core.specs.Joining.FlatMap.{flat_map_contract}
-use Rattle.fallible_core.specs.OneToOne.Map.{map_made, map_parts}
+use Rattle.fallible_core.specs.OneToOne.Map.{map_made}
 use Rattle.fallible_core.specs.Laws.Joining.Flatten.{lawful_flatten}
 use Rattle.fallible_core.specs.Laws.OneToOne.Map.{lawful_map}
 

@@ -1,7 +1,6 @@
--- The runs of one answer again and again, and that it is the same each time; or a clone, until one fails.
-use Rattle.std.specs.Prelude.{◌≡◌, ℕ, ◌+◌, zero, suc, ◌⊎◌, Some, None, Result, Ok, Err, List, [], ◌∷◌, All, ◌↔◌}
+-- The same answer each time, or a clone until one fails.
+use Rattle.std.specs.Prelude.{◌≡◌, ℕ, ◌+◌, zero, suc, ◌⊎◌, Some, None, Result, Ok, Err, List, [], ◌∷◌}
 use Rattle.std.proofs.Common.{refl, sym, subst, ap, inl, inr, arith, ◌∙◌}
-use Rattle.std.proofs.lemmas.List.Elements.{All-nil, All-cons, All-head, All-tail}
 use Rattle.fallible_contract.specs.Traces.{Answered, Run, items_in}
 use Rattle.fallible_contract.specs.Contract.{parts_as}
 use Rattle.fallible_contract.specs.Lists.{Repeats, repeated, result_answer}

@@ -1,5 +1,5 @@
--- The runs over a std iterator.
-use Rattle.std.specs.Prelude.{◌≡◌, ◌≤◌, ◌-◌, suc, List, [], ◌∷◌, map, length, reverse, slice_index_or, Option, Some, None, Result, Ok, Err, true, false, ◌↔◌}
+-- What a std iterator lists.
+use Rattle.std.specs.Prelude.{◌≡◌, ◌≤◌, ◌-◌, suc, List, [], ◌∷◌, map, length, reverse, slice_index_or, Option, Some, None, Result, Ok, Err, true, false}
 use Rattle.std.specs.Iterator.{Count}
 use Rattle.std.specs.Iterator.Runs as runs
 use Rattle.std.proofs.Common.{refl, sym, ap, subst, ◌∙◌, arith, true≢false}
@@ -7,7 +7,7 @@ use Rattle.std.proofs.lemmas.List.{length-reverse, get_or-reverse}
 use Rattle.std.proofs.iter.runs.Made.{run, took, seen, at-is}
 use Rattle.fallible_contract.specs.Traces.{Answered, Run}
 use Rattle.fallible_contract.specs.Lists.{AlwaysGives, RunsRead, RunsReadBack, result_answer}
-use Rattle.fallible_iterator.specs.Sources.Std.{std_step, StdTrace, std_element}
+use Rattle.fallible_iterator.specs.Sources.Std.{std_step, std_element}
 
 -- ---- what it lists
 

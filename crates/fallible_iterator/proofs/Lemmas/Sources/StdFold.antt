@@ -9,7 +9,7 @@ use Rattle.std.proofs.Common.{refl, sym, subst, ap, ◌∙◌}
 use Rattle.fallible_contract.specs.Traces.{Answered}
 use Rattle.fallible_contract.specs.Lists.{result_answer}
 use Rattle.fallible_contract.specs.Folds.{HoldsAtEachTurn, goes_on, Driven}
-use Rattle.fallible_contract.proofs.Lemmas.Folds.{holds_at_first_turn, holds_each_turn_after_item, driven_by_item_first, driven_end, driven_failure, driven_stop, fold_of_references_drives_values, names_kept}
+use Rattle.fallible_contract.proofs.Lemmas.Folds.{holds_at_first_turn, holds_each_turn_after_item, driven_by_item_first, driven_end, driven_failure, driven_of_first_break, fold_of_references_drives_values, names_kept}
 use Rattle.fallible_iterator.specs.Sources.Std.{std_step, std_element}
 use Rattle.fallible_iterator.specs.Sources.StdFold.{progressing, ElementTurn, answer_of, state_left, lent}
 use Rattle.std.specs.declared.ops.ControlFlow.{ControlFlow}
@@ -65,7 +65,7 @@ module _ {S A E Z F C R : Type 0} (of_item : A → Z) (of_failure : E → Z) (re
 
   -- the turn at which std's fold breaks off is where the fold stops, or meets a failure
   driven_to_stop : (c : C) (s t : Progressing S) (z : Z) (q : Result A E) (stop : C × Answered R E) → read z ≡ q → ElementCall s (Some z) t → ElementTurn turns c q (Err stop) → Driven StepOfStdFold turns s.it.now c stop.1 t.it.now stop.0
-  driven_to_stop c s t z (Ok x) stop e w (why, turn, is) = subst (λ a. Driven StepOfStdFold turns s.it.now c a t.it.now stop.0) (sym is) (driven_stop x (step_of_result s t z (Ok x) e w) turn)
+  driven_to_stop c s t z (Ok x) stop e w (why, turn, is) = subst (λ a. Driven StepOfStdFold turns s.it.now c a t.it.now stop.0) (sym is) (driven_of_first_break x (step_of_result s t z (Ok x) e w) turn)
   driven_to_stop c s t z (Err why) stop e w is = subst (λ p. Driven StepOfStdFold turns s.it.now c p.1 t.it.now p.0) (sym is) (driven_failure (step_of_result s t z (Err why) e w))
 
   -- what std says of the last call of its fold

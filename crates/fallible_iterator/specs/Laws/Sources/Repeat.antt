@@ -14,16 +14,16 @@ module _ {V A E : Type 0} (P : V → Answered A E → Type 0) where
   abbrev answers_again : V → Answered A E → V → Type 0
   answers_again v r w = P v r × (w ≡ v)
 
-  all_of_run_again : (trace : List (Answered A E)) (v w : V) → Run answers_again v trace w → All (P v) trace × (w ≡ v)
-  all_of_run_again [] v w h = (All-nil (P v), sym h)
-  all_of_run_again (r ∷ rest) v w h = let p = all_of_run_again rest v w (subst (λ u. Run answers_again u rest w) h.1.1 h.2) in (All-cons (P v) r rest h.1.0 p.0, p.1)
+  all_of_run_of_answers_again : (trace : List (Answered A E)) (v w : V) → Run answers_again v trace w → All (P v) trace × (w ≡ v)
+  all_of_run_of_answers_again [] v w h = (All-nil (P v), sym h)
+  all_of_run_of_answers_again (r ∷ rest) v w h = let p = all_of_run_of_answers_again rest v w (subst (λ u. Run answers_again u rest w) h.1.1 h.2) in (All-cons (P v) r rest h.1.0 p.0, p.1)
 
   run_of_all_answers_again : (trace : List (Answered A E)) (v w : V) → All (P v) trace × (w ≡ v) → Run answers_again v trace w
   run_of_all_answers_again [] v w h = sym h.1
   run_of_all_answers_again (r ∷ rest) v w h = (v, (All-head (P v) r rest h.0, refl), run_of_all_answers_again rest v w (All-tail (P v) r rest h.0, h.1))
 
   pub run_again_is_all_such_answers : (v : V) (trace : List (Answered A E)) (w : V) → Run answers_again v trace w ↔ (All (P v) trace × (w ≡ v))
-  run_again_is_all_such_answers v trace w = (all_of_run_again trace v w, run_of_all_answers_again trace v w)
+  run_again_is_all_such_answers v trace w = (all_of_run_of_answers_again trace v w, run_of_all_answers_again trace v w)
 
 module _ {A E : Type 0} (is_clone : A → A → Type 0) (is_infallible : A → Type 0) (from : AllocError → E → Type 0) where
   abbrev RepeatContract : Contract A A E

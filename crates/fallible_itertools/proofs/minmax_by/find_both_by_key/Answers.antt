@@ -1,7 +1,7 @@
 -- A draw decides, or the second one does, or a key, or the fold after both.
 use Rattle.std.specs.Prelude.{◌≡◌}
 use Rattle.std.proofs.Common.{refl}
-use Rattle.fallible_iterator.proofs.Lemmas.Folds.{driven_end, driven_failure, driven_stop, fold_drains_ended, fold_drains_failed, fold_drains_stopped, holds_at_first_turn}
+use Rattle.fallible_iterator.proofs.Lemmas.Folds.{driven_end, driven_failure, driven_of_first_break, fold_drains_ended, fold_drains_failed, fold_drains_stopped, holds_at_first_turn}
 use Rattle.fallible_iterator.specs.Closures.{call_by_reference, takes_by_reference}
 use Rattle.fallible_itertools.specs.MinMaxBy.{MinMaxKeyCall}
 use Rattle.fallible_itertools.specs.declared.minmax.MinMaxResult.TheVariants.{NoElements}
@@ -18,7 +18,7 @@ pub f-requires : goal.f-requires
 f-requires g c = holds_at_first_turn c.requires.callable (rw c.in-Ok-Some.field-0-is at c.in-Ok-Some.ensures.drawn) _ refl
 
 pub returns-in-Err-f : goal.returns-in-Err-f
-returns-in-Err-f g c = (_, _, fold_drains_stopped (MinMaxKeyCall g.K.Ord.cmp (call_by_reference g.F.FnMut)) (λ e d. d ≡ e) (NoElements, _) _ (driven_stop c.in-Ok-Some.first (rw c.in-Ok-Some.field-0-is at c.in-Ok-Some.ensures.drawn) (record { shown = _; shows = refl; called = c.in-Err-f.ensures })), refl)
+returns-in-Err-f g c = (_, _, fold_drains_stopped (MinMaxKeyCall g.K.Ord.cmp (call_by_reference g.F.FnMut)) (λ e d. d ≡ e) (NoElements, _) _ (driven_of_first_break c.in-Ok-Some.first (rw c.in-Ok-Some.field-0-is at c.in-Ok-Some.ensures.drawn) (record { shown = _; shows = refl; called = c.in-Err-f.ensures })), refl)
 
 pub returns-in-Ok-None-draw : goal.returns-in-Ok-None-draw
 returns-in-Ok-None-draw g c = (_, _, fold_drains_at_end_after_draw (MinMaxKeyCall g.K.Ord.cmp (call_by_reference g.F.FnMut)) _ c.in-Ok-Some.first (rw c.in-Ok-Some.field-0-is at c.in-Ok-Some.ensures.drawn) (_, record { shown = _; shows = refl; called = c.in-Ok.ensures }, refl) (rw c.in-Ok-None-draw.field-0-is at c.in-Ok-None-draw.ensures.drawn), refl)

@@ -1,27 +1,36 @@
 -- Each equation is one of the stage's list; a failure parts it, and what is held comes next.
-use Rattle.fallible_itertools_adapters.proofs.Lemmas.Coalesce.{adjacent_coalesced_unmerged, coalesced_before_failure, coalesced_in_parts, coalesced_of_both, coalesced_of_failure, coalesced_of_merged, coalesced_of_none, coalesced_of_one, coalesced_where_failed}
+use Rattle.std.proofs.Common.{refl}
+use Rattle.fallible_itertools_adapters.specs.Coalesce.{coalesced}
+use Rattle.fallible_itertools_adapters.proofs.Lemmas.Coalesce.{adjacent_coalesced_unmerged, coalesced_in_parts}
 use Rattle.fallible_itertools_adapters.proofs.laws.holding.law_coalesced.Goals as goal
 
 pub returns-clause-none : goal.returns-clause-none
-returns-clause-none g c h = coalesced_of_none h
+unfolding coalesced
+returns-clause-none g c h = refl
 
 pub returns-clause-one : goal.returns-clause-one
-returns-clause-one g c h y = coalesced_of_one h y
+unfolding coalesced
+returns-clause-one g c h y = refl
 
 pub returns-clause-merged : goal.returns-clause-merged
-returns-clause-merged g c h y x z l is = coalesced_of_merged h y x z l is
+unfolding coalesced
+returns-clause-merged g c h y x z l is = rw is refl
 
 pub returns-clause-both : goal.returns-clause-both
-returns-clause-both g c h y x a b l is = coalesced_of_both h y x a b l is
+unfolding coalesced
+returns-clause-both g c h y x a b l is = rw is refl
 
 pub returns-clause-failed : goal.returns-clause-failed
-returns-clause-failed g c h y x e l is = coalesced_where_failed h y x e l is
+unfolding coalesced
+returns-clause-failed g c h y x e l is = rw is refl
 
 pub returns-clause-failure : goal.returns-clause-failure
-returns-clause-failure g c h e l = coalesced_of_failure h e l
+unfolding coalesced
+returns-clause-failure g c h e l = refl
 
 pub returns-clause-before_failure : goal.returns-clause-before_failure
-returns-clause-before_failure g c h y e l = coalesced_before_failure h y e l
+unfolding coalesced
+returns-clause-before_failure g c h y e l = refl
 
 pub returns-clause-parts : goal.returns-clause-parts
 returns-clause-parts g c h a e b = coalesced_in_parts h a e b

@@ -1,7 +1,7 @@
 -- A fold of `SkipWhile` begins with a draw of it, and after an item it is a fold of the source.
 use Rattle.std.specs.Prelude.{Some, Ok}
 use Rattle.fallible_contract.specs.Laws.Contract.{lawful_parts}
-use Rattle.fallible_contract.proofs.Lemmas.Folds.{holds_at_first_turn, holds_each_turn_after_item, driven_by_item_first, driven_end, driven_failure, driven_stop}
+use Rattle.fallible_contract.proofs.Lemmas.Folds.{holds_at_first_turn, holds_each_turn_after_item, driven_by_item_first, driven_end, driven_failure, driven_of_first_break}
 use Rattle.fallible_core.specs.Filtering.SkipWhile.{skip_while_made, skip_while_parts}
 use Rattle.fallible_core.specs.Laws.Filtering.SkipWhile.{lawful_skip_while}
 use Rattle.fallible_core.proofs.Lemmas.Filtering.SkipWhileFolds.{skipping_flag_is_true_after_item, holds_each_turn_past, drained_past}
@@ -23,7 +23,7 @@ pub returns-in-Continue : goal.returns-in-Continue
 returns-in-Continue g c = driven_by_item_first {s = c.args.self.now} {t = c.next.new.self} c.in-Ok-Some.x (rw c.in-Ok-Some.field-0-is at c.in-Ok-Some.ensures) c.in-Continue.ensures (drained_past g.I.FallibleIterator.contract g.P.FnMut {s = c.next.new.self} (skipping_flag_is_true_after_item g.I.FallibleIterator.contract g.P.FnMut c.args.self.now c.next.new.self c.in-Ok-Some.x (rw c.in-Ok-Some.field-0-is at c.in-Ok-Some.ensures)) c.drive.ensures)
 
 pub returns-in-Break : goal.returns-in-Break
-returns-in-Break g c = driven_stop {s = c.args.self.now} {t = c.next.new.self} c.in-Ok-Some.x (rw c.in-Ok-Some.field-0-is at c.in-Ok-Some.ensures) c.in-Break.ensures
+returns-in-Break g c = driven_of_first_break {s = c.args.self.now} {t = c.next.new.self} c.in-Ok-Some.x (rw c.in-Ok-Some.field-0-is at c.in-Ok-Some.ensures) c.in-Break.ensures
 
 pub returns-in-Ok-None : goal.returns-in-Ok-None
 returns-in-Ok-None g c = driven_end {s = c.args.self.now} {t = c.next.new.self} (rw c.in-Ok-None.field-0-is at c.in-Ok-None.ensures)

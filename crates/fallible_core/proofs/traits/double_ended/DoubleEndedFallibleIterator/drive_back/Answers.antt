@@ -1,13 +1,13 @@
 -- Each turn goes before the fold from there on.
 use Rattle.std.proofs.Common.{arith}
-use Rattle.fallible_contract.proofs.Lemmas.Folds.{holds_at_first_turn, holds_each_turn_after_item, driven_by_item_first, driven_end, driven_failure, driven_stop}
+use Rattle.fallible_contract.proofs.Lemmas.Folds.{holds_at_first_turn, holds_each_turn_after_item, driven_by_item_first, driven_end, driven_failure, driven_of_first_break}
 use Rattle.fallible_core.proofs.traits.double_ended.DoubleEndedFallibleIterator.drive_back.Goals as goal
 
 pub turn-requires : goal.turn-requires
 turn-requires g c = holds_at_first_turn c.loop-x.invariant.callable (rw c.in-Ok-Some.field-0-is at c.in-Ok-Some.ensures)
 
 pub returns-in-Break : goal.returns-in-Break
-returns-in-Break g c = c.loop-x.invariant.whole _ _ _ (driven_stop _ (rw c.in-Ok-Some.field-0-is at c.in-Ok-Some.ensures) c.in-Break.ensures)
+returns-in-Break g c = c.loop-x.invariant.whole _ _ _ (driven_of_first_break _ (rw c.in-Ok-Some.field-0-is at c.in-Ok-Some.ensures) c.in-Break.ensures)
 
 pub returns-in-Ok-None : goal.returns-in-Ok-None
 returns-in-Ok-None g c = c.loop-x.invariant.whole _ _ _ (driven_end (rw c.in-Ok-None.field-0-is at c.in-Ok-None.ensures))

@@ -1,6 +1,6 @@
 // changed: no allocator is passed
-// proved: 162e67ae
-fn on_item(&self, p: &mut (Option<(K, Vec<X>)>, F), item: X) -> Made<(K, Vec<X>), Stop<E>, E> {
+// proved: 7a6d43d5
+fn on_item(&self, p: &mut (Option<(K, Vec<X>)>, F), item: X) -> Emitted<(K, Vec<X>), Stop<E>, E> {
     match (p.1)(&item) {
         Ok(key) => grouped(&mut p.0, key, item),
         Err(e) => let_go(p.0.take(), Some(e)),

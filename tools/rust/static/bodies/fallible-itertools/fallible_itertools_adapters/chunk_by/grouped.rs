@@ -1,10 +1,10 @@
 // changed: no allocator is passed, and none refuses
-// proved: 3b63fa58
+// proved: 32925f4c
 fn grouped<X, K: PartialEq, E>(
     group: &mut Option<(K, Vec<X>)>,
     key: K,
     item: X,
-) -> Made<(K, Vec<X>), Stop<E>, E>
+) -> Emitted<(K, Vec<X>), Stop<E>, E>
 {
     let room = match group {
         Some((of, items)) => {

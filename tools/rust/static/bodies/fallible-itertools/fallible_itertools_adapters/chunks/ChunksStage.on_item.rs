@@ -1,10 +1,10 @@
 // changed: no allocator is passed, and none refuses
-// proved: 03043e25
+// proved: b3277ab8
 fn on_item(
     &self,
     p: &mut ((usize, Option<Vec<X>>), ()),
     item: X,
-) -> Made<Vec<X>, Stop<E>, E> {
+) -> Emitted<Vec<X>, Stop<E>, E> {
     if grown(p.0.0, &mut p.0.1, item) < p.0.0 {
         None
     } else {
