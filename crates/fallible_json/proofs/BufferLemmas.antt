@@ -1,6 +1,5 @@
 -- What a buffer holds of the bytes that were read, and what a run comes to.
-use Rattle.std.proofs.Common.{true, ◌≡◌, ◌⊎◌, inl, inr, ℕ, ◌+◌, ◌-◌, ◌*◌, ◌<◌, ◌≤◌, ◌^◌, List, [], ◌∷◌, ◌++◌, length, take, drop, Option, Some, None, Result, Ok, Err, refl, sym, ap, subst, ◌∙◌, arith, append_assoc, append-nil, length-append, length-take, length-drop, take-add, take-append-drop}
-use Rattle.std.specs.Prelude.{◌≢◌}
+use Rattle.std.proofs.Common.{true, ◌≡◌, inl, inr, ℕ, ◌+◌, ◌-◌, ◌*◌, ◌≤◌, ◌^◌, List, [], ◌++◌, length, take, drop, Option, Some, None, Result, Ok, Err, refl, sym, ap, subst, ◌∙◌, arith, append_assoc, length-append, length-take, length-drop, take-add, take-append-drop}
 use Rattle.std.proofs.KnownBytes.{Consumes-kept, Consumes-nil, Keeps-refl}
 use Rattle.std.proofs.Math.Seq.{take-append-add, drop-append-add, drop-append_seam, take-append_seam}
 use Rattle.std.proofs.lemmas.List.{drop-append-le, drop-take}
@@ -14,14 +13,13 @@ use Rattle.program_io.proofs.ReadingLemmas.{fails_after}
 use Rattle.program_io.specs.Reading.{Fails}
 use Rattle.program_io.specs.declared.fault.RunFault.{RunFault}
 use Rattle.program_io.specs.declared.fault.RunFault.TheVariants as run
-use Rattle.fallible_iterator.specs.Fault.{Fault}
 use Rattle.fallible_iterator.specs.Fault.TheVariants.{Source, Memory}
 use Rattle.fallible_json.specs.Json.{not_text_at}
 use Rattle.fallible_json.specs.Places.{place_after_bytes}
-use Rattle.fallible_json.specs.Report.{ComesTo, YieldsMany}
-use Rattle.fallible_json.specs.Taking.{CountsUpTo, FindsFault, Fits, Takes}
-use Rattle.fallible_json.specs.Writing.{EndsFault, Fills, FindsBroken, PrintsLast, PrintsPart, Sends, TakesLast, TakesPart, TellsFault, last_lines, valid_of}
-use Rattle.fallible_json.proofs.SoFarLemmas.{Read, SoFar, all_printed, nothing_read, so_far_read, so_far_taken, some_of_read, told_of_broken, told_of_cut, told_of_fault, told_of_last, writes_read, writes_some}
+use Rattle.fallible_json.specs.Report.{ComesTo}
+use Rattle.fallible_json.specs.Taking.{FindsFault, Fits, Takes}
+use Rattle.fallible_json.specs.Writing.{EndsFault, Fills, FindsBroken, PrintsLast, PrintsPart, TakesLast, TakesPart, last_lines, valid_of}
+use Rattle.fallible_json.proofs.SoFarLemmas.{Read, SoFar, all_printed, so_far_read, so_far_taken, some_of_read, told_of_broken, told_of_cut, told_of_fault, told_of_last, writes_read, writes_some}
 use Rattle.fallible_json.proofs.Utf8Lemmas.{valid_after}
 use Rattle.fallible_json.specs.declared.fault.JsonFault.{JsonFault}
 use Rattle.fallible_json.specs.declared.fault.TextFault.{TextFault}

@@ -1,5 +1,5 @@
 -- Bytes have at most one text more than they are.
-use Rattle.std.proofs.Common.{Bool, true, false, ◌≡◌, ℕ, suc, ◌+◌, ◌≤◌, List, [], ◌∷◌, ◌++◌, length, Option, Some, None, Result, Ok, Err, if◌then◌else◌, not, arith, ◌∙◌}
+use Rattle.std.proofs.Common.{Bool, true, false, ◌≡◌, ℕ, suc, ◌+◌, ◌≤◌, List, [], ◌∷◌, ◌++◌, length, Option, Some, None, Result, Ok, Err, if◌then◌else◌, not, arith}
 use Rattle.std.specs.Prelude.{filter}
 use Rattle.std.specs.declared.convert.Infallible.{Infallible}
 use Rattle.fallible_core.specs.OneToOne.Enumerate.{numbered}
@@ -9,11 +9,10 @@ use Rattle.fallible_json.specs.Grammar.{State, after_token, begin, is_whole}
 use Rattle.fallible_json.specs.Lexing.{Begun, Lexeme, Placed, begun_at, closed, lexed, lexed_after, lexed_from, where_goes}
 use Rattle.fallible_json.specs.Minifying.{bytes_of}
 use Rattle.fallible_json.specs.Taking.{◌before◌}
-use Rattle.fallible_json.specs.Texts.{Ending, complete, cut, Text, Tokens, at_end, at_ending, ends_text, faulty, is_begin, texts_after, texts_from, tokens_by, where_ends, where_stands}
+use Rattle.fallible_json.specs.Texts.{Ending, complete, cut, Text, Tokens, at_ending, ends_text, faulty, is_begin, texts_after, texts_from, tokens_by, where_ends, where_stands}
 use Rattle.fallible_json.specs.Tokens.{after, begun_by, is_blank}
 use Rattle.fallible_json.specs.Wanted.{wanted_of}
 use Rattle.fallible_json.specs.declared.lexer.LexFault.{LexFault}
-use Rattle.fallible_json.specs.declared.lexer.LexFault.TheVariants.{Unknown}
 use Rattle.fallible_json.specs.declared.token.Phase.{Phase}
 
 few_either : {A : Type 0} (c : Bool) (a b : List A) (n : ℕ) → length a ≤ n → length b ≤ n → length (if c then a else b) ≤ n

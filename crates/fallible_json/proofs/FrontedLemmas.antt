@@ -1,21 +1,18 @@
 -- Texts of which the first bytes of the first are told apart.
-use Rattle.std.proofs.Common.{Bool, true, false, ◌≡◌, ◌⊎◌, inl, inr, ⊎_elim, ℕ, ◌+◌, ◌<◌, List, [], ◌∷◌, ◌++◌, length, map, Option, Some, None, Result, Ok, Err, if◌then◌else◌, arith, refl, sym, ap, subst, ◌∙◌, append_assoc, append-nil}
+use Rattle.std.proofs.Common.{Bool, true, false, ◌≡◌, ◌⊎◌, inl, inr, ℕ, ◌<◌, List, [], ◌∷◌, ◌++◌, length, Option, Some, None, Ok, Err, if◌then◌else◌, arith, refl, sym, ap, subst, ◌∙◌, append_assoc, append-nil}
 use Rattle.std.specs.Prelude.{◌≢◌}
-use Rattle.std.proofs.lemmas.List.{map-append}
-use Rattle.std.proofs.lemmas.Grind.{flat_map-append}
 use Rattle.fallible_core.specs.OneToOne.Enumerate.{numbered}
 use Rattle.fallible_contract.specs.Lists.{items}
 use Rattle.fallible_json.specs.Grammar.{State, after_token, begin, first_in, is_whole, next_in, step_of, taken, taken_if}
 use Rattle.fallible_json.specs.Lexing.{lexed}
 use Rattle.fallible_json.specs.Minifying.{bytes_of}
 use Rattle.fallible_json.specs.Taking.{◌before◌}
-use Rattle.fallible_json.specs.Texts.{Ending, complete, cut, Text, Tokens, at_end, at_ending, ends_text, faulty, is_begin, lines_of, texts_after, texts_from, tokens_by, where_ends, where_stands}
-use Rattle.fallible_json.specs.Wanted.{wanted_of}
+use Rattle.fallible_json.specs.Texts.{Ending, complete, cut, Text, Tokens, at_ending, ends_text, is_begin, lines_of, texts_after, texts_from, tokens_by, where_ends, where_stands}
 use Rattle.fallible_json.specs.declared.fault.JsonFault.{JsonFault}
 use Rattle.fallible_json.specs.declared.grammar.Container.{Container}
 use Rattle.fallible_json.specs.declared.grammar.Container.TheVariants.{Array, Object}
 use Rattle.fallible_json.specs.declared.grammar.Expects.{Expects}
-use Rattle.fallible_json.specs.declared.grammar.Expects.TheVariants.{Value, ValueOrEnd, NameOrEnd, Name, Separator, AfterValue}
+use Rattle.fallible_json.specs.declared.grammar.Expects.TheVariants.{Value, Separator, AfterValue}
 use Rattle.fallible_json.specs.declared.grammar.Step.{Step}
 use Rattle.fallible_json.specs.declared.grammar.Step.TheVariants.{Scalar, Opens, Closes, Names, Separates, GoesOn}
 use Rattle.fallible_json.specs.declared.token.Token.{Token}

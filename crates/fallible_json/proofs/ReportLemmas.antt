@@ -1,5 +1,5 @@
 -- What was read of texts, and what is written of them.
-use Rattle.std.proofs.Common.{Bool, true, false, ◌≡◌, ◌⊎◌, inl, inr, ⊎_elim, ℕ, ◌+◌, ◌-◌, ◌*◌, ◌<◌, ◌≤◌, ◌^◌, List, [], ◌∷◌, ◌++◌, length, take, drop, Option, Result, Ok, Err, refl, sym, ap, subst, ◌∙◌, arith, append_assoc, append-nil, length-append, length-take, length-drop, reverse, take_all, take-append-drop, max}
+use Rattle.std.proofs.Common.{Bool, true, false, ◌≡◌, inl, inr, ℕ, ◌+◌, ◌-◌, ◌*◌, ◌<◌, ◌≤◌, ◌^◌, List, [], ◌∷◌, ◌++◌, length, take, drop, Option, Err, refl, sym, ap, subst, ◌∙◌, arith, append-nil, length-append, length-take, length-drop, reverse, take_all, take-append-drop, max}
 use Rattle.std.proofs.lemmas.List.{drop-drop, drop-take, length-reverse}
 use Rattle.std.specs.Io.KnownBytes.{Appends}
 use Rattle.std.specs.Prelude.{◌==◌, not}
@@ -7,8 +7,8 @@ use Rattle.std.specs.Option.{is_some}
 use Rattle.std.specs.Str.Lossy.{utf8_error_len, utf8_valid_len}
 use Rattle.fallible_iterator.specs.Fault.{Fault}
 use Rattle.fallible_iterator.specs.Fault.TheVariants.{Source, Memory}
-use Rattle.fallible_json.specs.Taking.{CountsUpTo, EndTexts, FindsFault, FindsLastFault, Fits, Takes, TakesAll, begun_of, ended_of, ◌before◌}
-use Rattle.fallible_json.specs.Texts.{Ending, complete, cut, Text, lines_of, texts_after}
+use Rattle.fallible_json.specs.Taking.{CountsUpTo, EndTexts, Fits, Takes, begun_of, ended_of, ◌before◌}
+use Rattle.fallible_json.specs.Texts.{complete, cut, texts_after}
 use Rattle.fallible_json.specs.Json.{not_text_at}
 use Rattle.fallible_json.specs.Places.{place_after_bytes}
 use Rattle.fallible_json.specs.Writing.{CanTell, FindsBroken, Sends, TakesLast, TakesPart, valid_of}

@@ -1,27 +1,24 @@
 -- What was read of texts, and what was written of them, after each read.
-use Rattle.std.proofs.Common.{Bool, true, false, ◌≡◌, ◌⊎◌, inl, inr, ⊎_elim, ℕ, ◌+◌, ◌-◌, ◌<◌, ◌≤◌, ◌^◌, List, [], ◌∷◌, ◌++◌, length, take, drop, map, Option, Result, Ok, Err, IsUtf8, refl, sym, ap, subst, ◌∙◌, arith, append_assoc, append-nil, length-append, length-take, length-drop, take-append-drop, take_all, eq-eqb}
+use Rattle.std.proofs.Common.{true, false, ◌≡◌, ◌⊎◌, inl, inr, ⊎_elim, ℕ, ◌+◌, ◌<◌, ◌≤◌, List, [], ◌∷◌, ◌++◌, length, take, drop, map, Option, Ok, Err, IsUtf8, refl, sym, ap, subst, ◌∙◌, arith, append_assoc, append-nil, length-append, length-take, take-append-drop, eq-eqb}
 use Rattle.std.specs.Prelude.{◌≢◌, ◌==◌}
-use Rattle.std.proofs.KnownBytes.{Appends-nil, Appends-trans, Consumes-kept, Consumes-nil, Consumes-trans}
-use Rattle.std.proofs.Math.Seq.{take-append-add, take-append_seam, drop-append_seam}
+use Rattle.std.proofs.KnownBytes.{Appends-nil, Appends-trans, Consumes-nil, Consumes-trans}
+use Rattle.std.proofs.Math.Seq.{take-append-add, take-append_seam}
 use Rattle.std.proofs.lemmas.Bool.{cases_lt, cond-true, cond-false}
 use Rattle.std.proofs.lemmas.Grind.{flat_map-append}
-use Rattle.std.proofs.lemmas.List.{drop-drop}
 use Rattle.std.proofs.lemmas.Str.{IsUtf8-append, IsUtf8-nil, utf8_valid_len-IsUtf8, utf8_valid_len_le}
 use borrow.Author.Tests.{ne_eqb}
-use Rattle.std.specs.Io.KnownBytes.{Appends, Consumes, IsAtEnd, Keeps}
+use Rattle.std.specs.Io.KnownBytes.{Appends, Consumes, IsAtEnd}
 use Rattle.std.specs.Option.{is_some}
 use Rattle.std.specs.Str.Lossy.{utf8_error_len, utf8_valid_len}
 use Rattle.program_io.specs.Reading.{ReadsAll}
 use Rattle.fallible_core.specs.OneToOne.Enumerate.{numbered}
 use Rattle.fallible_contract.specs.Lists.{items}
-use Rattle.fallible_iterator.specs.Fault.{Fault}
-use Rattle.fallible_iterator.specs.Fault.TheVariants.{Source, Memory}
 use Rattle.fallible_json.specs.Grammar.{State, begin}
 use Rattle.fallible_json.specs.Json.{not_text_at}
 use Rattle.fallible_json.specs.Lexing.{lexed_after}
 use Rattle.fallible_json.specs.Places.{place_after_bytes}
-use Rattle.fallible_json.specs.Report.{HasTexts, WritesRead, WritesSome, YieldsMany}
-use Rattle.fallible_json.specs.Taking.{CountsUpTo, EndTexts, FindsFault, FindsLastFault, Fits, Takes, TakesAll, begun_of, ended_of, ◌before◌}
+use Rattle.fallible_json.specs.Report.{HasTexts, WritesRead, WritesSome}
+use Rattle.fallible_json.specs.Taking.{CountsUpTo, EndTexts, FindsFault, FindsLastFault, Takes, TakesAll, begun_of, ended_of, ◌before◌}
 use Rattle.fallible_json.specs.Texts.{Ending, complete, cut, Text, lines_of, texts_after, texts_from, texts_of, texts_so_far}
 use Rattle.fallible_json.specs.Writing.{FindsBroken, Sends, last_lines, printed}
 use Rattle.fallible_json.proofs.FrontedLemmas.{before_twice, fronted, fronted_after, fronted_before, fronted_lines, fronted_nil, fronted_texts, fronted_twice, left_of, length_fronted, some_after}
@@ -32,9 +29,6 @@ use Rattle.fallible_json.specs.declared.report.Prints.TheVariants as how
 use Rattle.fallible_json.specs.declared.texts.Texts.{Texts}
 
 -- ---- the texts of bytes, by how many of these are UTF-8
-
-abbrev Begin : State × List ℕ
-Begin = (begin, [])
 
 -- all texts of bytes that are UTF-8, by how they end
 abbrev pub all_texts : Ending → List ℕ → List Text
@@ -92,10 +86,10 @@ unfronted : (sent : List ℕ) (l : List Text) (json json' : List ℕ) (f : JsonF
 unfronted sent [] json json' f is same = absurd cc
 unfronted sent (Ok x ∷ l) json json' f is same = absurd cc
 unfronted sent (Err (x, g) ∷ l) json json' f is same =
+    let d : l ≡ [] = cc in
     let p : (sent ++ x, g) ≡ (json, f) = cc in
     let a : sent ++ x ≡ json = ap (λ (q : List ℕ × JsonFault). q.0) p in
     let b : g ≡ f = ap (λ (q : List ℕ × JsonFault). q.1) p in
-    let d : l ≡ [] = cc in
     let e : x ≡ json' = cancel sent x json' (a ∙ same) in
     λ i. Err (e i, b i) ∷ d i
 
@@ -124,10 +118,6 @@ last_printed how.Tokens u lines texts left h plain = h (begun_of u).1
 sent_printed : (prints : Prints) (texts : List (List ℕ)) (sent : List ℕ) → (prints ≡ how.Texts → sent ≡ []) → lines_of texts ++ sent ≡ printed prints texts sent
 sent_printed how.Texts texts sent plain = ap (λ l. lines_of texts ++ l) (plain refl) ∙ append-nil (lines_of texts)
 sent_printed how.Tokens texts sent plain = refl
-
-none_of_length : (l : List ℕ) → length l ≤ 0 → l ≡ []
-none_of_length [] h = refl
-none_of_length (x ∷ l) h = absurd (omega arith)
 
 -- ---- what was read, and what was written
 

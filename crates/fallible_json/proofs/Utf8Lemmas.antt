@@ -1,9 +1,9 @@
 -- How many bytes are UTF-8, of bytes that come a part at a time.
-use Rattle.std.proofs.Common.{Bool, Option, None, Some, false, get_or, get_or-drop, if◌then◌else◌, ◌≡◌, ◌⊎◌, ℕ, zero, suc, ◌+◌, ◌-◌, ◌*◌, ◌<◌, ◌≤◌, true, List, [], ◌∷◌, ◌++◌, length, take, drop, IsUtf8, refl, sym, subst, ap, ◌∙◌, arith, inl, inr, ⊎_elim, true≢false, length-append, length-drop, length-take, take_all, take-add, take-take, take-append-drop}
+use Rattle.std.proofs.Common.{Bool, Option, None, Some, false, get_or, get_or-drop, if◌then◌else◌, ◌≡◌, ◌⊎◌, ℕ, zero, suc, ◌+◌, ◌-◌, ◌*◌, ◌<◌, ◌≤◌, true, List, [], ◌∷◌, ◌++◌, length, take, drop, IsUtf8, refl, sym, subst, ap, ◌∙◌, arith, inl, inr, ⊎_elim, true≢false, length-append, length-drop, length-take, take_all, take-add, take-take}
 use Rattle.std.proofs.Math.Seq.{drop-append_seam, take-append_seam}
 use Rattle.std.proofs.lemmas.Bool.{cases_Bool, cases_lt, cond-true, cond-false}
 use Rattle.std.proofs.lemmas.List.{drop-take, take-append-le}
-use Rattle.std.proofs.lemmas.Str.{IsUtf8-append, IsUtf8-drop, IsUtf8-nil, IsCharBoundary-from_take, IsUtf8-from_is_utf8, is_utf8-from_IsUtf8, utf8_valid_len-IsUtf8, utf8_valid_len-IsValidUpTo, utf8_valid_len_le}
+use Rattle.std.proofs.lemmas.Str.{IsUtf8-append, IsUtf8-drop, IsUtf8-nil, IsCharBoundary-from_take, IsUtf8-from_is_utf8, is_utf8-from_IsUtf8, utf8_valid_len-IsUtf8, utf8_valid_len-IsValidUpTo}
 use Rattle.std.proofs.lemmas.Bool.Decides.{nat_tests}
 use Rattle.std.proofs.Math.ListN.{get_or-append}
 use Rattle.std.proofs.str.Faults.{Ranged, no_char, valid_to}
@@ -62,10 +62,6 @@ valid_front bs =
     (λ (u : IsUtf8 bs). let all = utf8_valid_len-IsUtf8 bs u in subst IsUtf8 (sym (take_all (utf8_valid_len bs) bs (omega (arith, all)))) u)
     (λ (v : IsValidUpTo bs (utf8_valid_len bs)). v.front)
     (valid_cases bs)
-
--- where all that come are, the bytes are UTF-8
-pub valid_all : (bs : List ℕ) → length bs ≤ utf8_valid_len bs → IsUtf8 bs
-valid_all bs all = subst IsUtf8 (take_all (utf8_valid_len bs) bs all) (valid_front bs)
 
 module _ (bs : List ℕ) (at : ℕ) (within : at ≤ length bs) (front : IsUtf8 (take at bs)) where
   front_and_part : (n : ℕ) → IsUtf8 (take n (drop at bs)) → IsUtf8 (take (at + n) bs)

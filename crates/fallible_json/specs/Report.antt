@@ -47,7 +47,7 @@ module _ (prints : Prints) (unread unread' written written' : Option (List ℕ))
     pub wrote : Appends written written' (printed prints texts sent)
 
 module _ {R W : Type 0} (left : R → Option (List ℕ)) (fails : ErrorKind → R → R → Type 0) (input input' : R) (refused : Type 0) (prints : Prints) (failed : W → Type 0) (written written' : Option (List ℕ)) (output' : W) where
-  -- What an outcome says of the input, and of what was written. `Ok`: all of it was read, it has no fault, and its texts were written, each on a line, and nothing else. `Input`: its first fault is this, of the text with this number; what is printed before it was written. `Read`: a read failed, or too many bytes came; what is printed of those before was written. `Memory`: a read failed for want of memory, or the maker had none; some of that was written. `Write`: writing failed.
+  -- What an outcome says of the input, and of what was written. `Ok`: all of it was read, it has no fault, and its texts were written, each on a line, and nothing else. `Input`: its first fault is this, of the text with this number; what is printed before it was written. `Read`: a read failed, or too many bytes came; what is printed of those before was written. `Memory`: a read failed for want of memory, or the maker had none; what was written is some of that. `Write`: writing failed.
   abbrev pub ComesTo : {T : Type 0} → Result T (RunFault TextFault) → Type 0
   ComesTo (Ok done) = (texts : List (List ℕ)) × ReadsAll (left input) (left input') (λ bytes. texts_of bytes ≡ map (λ text. Ok text) texts) × Appends written written' (lines_of texts)
   ComesTo (Err (Input fault)) = (texts : List (List ℕ)) × (json : List ℕ) × HasTexts (left input) (left input') (texts before Err (json, fault.fault) ∷ []) × (fault.text ≡ length texts + 1) × Appends written written' (printed prints texts json)

@@ -21,7 +21,7 @@ use std::io;
 pub enum Prints {
     /// Nothing: each text is printed when it ends, and of one that has a fault nothing. Its bytes are held in memory.
     Texts,
-    /// Each token, soon after it came. Of a text that has a fault the tokens before that are printed, with no newline.
+    /// Each token of an array or an object, soon after it came. Of a text that has a fault the tokens before that are printed, with no newline.
     Tokens,
 }
 
@@ -222,7 +222,7 @@ fn keep_rest(buffer: &mut Vec<u8>, taken: usize, filled: usize)
     buffer.copy_within(taken..filled, 0);
 }
 
-/// Reads JSON texts up to the end of `reader`, which may be any reader of std, and writes each to `writer` without the blanks between its tokens, and a newline, as soon as it ends. It fails with `Input` at the first fault of a text, with `Read` where a read fails, or after 2 ^ 61 bytes, with `Memory` if that is for want of memory or `maker` has none, and with `Write` where the writer fails. An interrupted read is tried again.
+/// Reads JSON texts up to the end of `reader`, which may be any reader of std, and writes each to `writer` without the blanks between its tokens, and a newline, as soon as it ends. It fails with `Input` at the first fault of a text, with `Read` where a read fails, or after 2 ^ 61 bytes, with `Memory` if that is for want of memory or `maker` has none, and with `Write` where the writer fails. What is printed of the bytes before a fault or a failed read is written first. An interrupted read is tried again.
 pub fn run<M: MakeTexts, R: ReadBytes, W: WriteText>(
     alloc: Global,
     maker: &M,

@@ -1,5 +1,5 @@
 // The program, over any input and any two outputs.
-ghost use Rattle.fallible_json.specs.Faults.{status_of, text_of};
+ghost use Rattle.fallible_json.specs.Faults.{status_of, text_of_text};
 ghost use Rattle.fallible_json.specs.Report.{ComesTo};
 ghost use Rattle.program_io.specs.Endings.{EndsWith};
 ghost use Rattle.program_io.specs.Reading.{Fails};
@@ -20,10 +20,10 @@ pub(crate) fn program<M: MakeTexts, R: ReadBytes, W: WriteText, E: WriteText>(
     name: Option<&str>,
     errors: &mut E,
 ) -> Result<u8, u8>
-    ensures { EndsWith status_of text_of name.entry
+    ensures { EndsWith (λ fault. status_of fault.fault) text_of_text name.entry
         (E.written errors.old) (E.written errors.new) (E.failed errors.new)
-        (ComesTo R.left (Fails R.left R.fails) input.old input.new (M.refused maker.now) W.failed
-        (W.written output.old) (W.written output.new) output.new) result }
+        (ComesTo R.left (Fails R.left R.fails) input.old input.new (M.refused maker.now) prints
+        W.failed (W.written output.old) (W.written output.new) output.new) result }
 {
     ended(run(alloc, maker, prints, input, output), name, errors)
 }

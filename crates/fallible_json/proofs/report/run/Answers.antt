@@ -1,6 +1,6 @@
 -- Each turn keeps what the buffer holds, and each end says what was read and written.
 use Rattle.std.proofs.Common.{◌≡◌, ◌+◌, ◌-◌, ◌^◌, [], length, refl, ap, arith, length-take}
-use Rattle.fallible_json.proofs.BufferLemmas.{Holds, fault_comes, fits_held, held_read, last_comes, many_comes, part_comes, turn}
+use Rattle.fallible_json.proofs.BufferLemmas.{fault_comes, fits_held, held_read, last_comes, many_comes, part_comes, turn}
 use Rattle.fallible_json.proofs.SoFarLemmas.{nothing_read}
 use Rattle.fallible_json.proofs.report.run.Goals as goal
 

@@ -1,5 +1,5 @@
 -- All that was read is taken, but for what the buffer holds; and what is printed of it was written.
-use Rattle.std.proofs.Common.{◌≡◌, ◌+◌, ◌-◌, ◌<◌, ◌≤◌, ◌^◌}
+use Rattle.std.proofs.Common.{◌-◌, ◌≤◌, ◌^◌}
 use Rattle.fallible_json.proofs.BufferLemmas.{Holds}
 use Rattle.fallible_json.proofs.report.run.Given as goal
 
