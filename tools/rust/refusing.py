@@ -7,14 +7,15 @@ from source import Refused, functions
 from tests import closing
 
 # Calls that may be refused, and those that stand in their place. Of a method the receiver is a std collection's.
-METHODS = {"push": "try_push", "extend_from_slice": "try_extend_from_slice", "reserve": "try_make_room", "push_str": "try_push_str"}
+METHODS = {"push": "try_push", "extend_from_slice": "try_extend_from_slice", "reserve": "try_make_room", "resize": "try_resize",
+           "push_str": "try_push_str"}
 FUNCTIONS = {
     "Vec::from_slice": "Vec::try_from_slice", "Vec::with_capacity": "Vec::try_with_room", "String::from_str": "String::try_from_str",
     "BufReader::new": "BufReader::try_new", "BufReader::with_capacity": "BufReader::try_with_buffer",
 }
 # The trait of `program_io::memory` that has each of them.
 TRAITS = {
-    "TryVec": r"\.try_push\(|\.try_extend_from_slice\(|\.try_make_room\(|\bVec::try_\w+\(",
+    "TryVec": r"\.try_push\(|\.try_extend_from_slice\(|\.try_make_room\(|\.try_resize\(|\bVec::try_\w+\(",
     "TryString": r"\.try_push_str\(|\bString::try_\w+\(",
     "TryCollect": r"\.try_collect\(",
     "TryBuffer": r"\bBufReader::try_\w+\(",

@@ -1,9 +1,9 @@
 -- What the bytes of a text make of its tokens and of the run of one, place by place.
-use Rattle.std.specs.Prelude.{◌≡◌, ℕ, suc, ◌+◌, ◌-◌, ◌<◌, ◌≤◌, ◌==◌, nat_le, true, false, Option, Some, None, Result, Ok, Err, List, [], ◌∷◌, length, drop}
+use Rattle.std.specs.Prelude.{◌≡◌, ℕ, suc, ◌+◌, ◌-◌, ◌<◌, ◌≤◌, ◌==◌, nat_le, true, false, Option, Some, None, Result, Ok, Err, List, [], ◌∷◌, ◌++◌, length, drop}
 use Rattle.std.specs.declared.convert.Infallible.{Infallible}
-use Rattle.std.proofs.Common.{arith, refl, sym, ap, subst, ◌∙◌, get_or, drop-cons}
+use Rattle.std.proofs.Common.{arith, refl, sym, ap, subst, ◌∙◌, get_or, drop-cons, length-append}
 use Rattle.std.proofs.lemmas.Bool.Decides.{nat_tests}
-use Rattle.std.proofs.lemmas.List.{drop_all}
+use Rattle.std.proofs.lemmas.List.{drop_all, get_or_append_left}
 use Rattle.fallible_iterator.specs.Lists.{items, numbered, result_answer}
 use Rattle.fallible_iterator.specs.Showing.{TakesShown}
 use Rattle.fallible_json.specs.Bytes.{KeptByDigits, placed_from, run_from}
@@ -145,3 +145,24 @@ power_kept byte is = rw is refl
 
 pub quote_goes : (phase : Phase) (byte : ℕ) → phase ≡ Inside → byte ≡ 34 → after phase byte ≡ Some (Whole Text)
 quote_goes phase byte inside is = rw (inside, is) refl
+
+-- ---- a text that goes on
+
+pub within_front : (text rest : List ℕ) (at : ℕ) → at < length text → at < length (text ++ rest)
+within_front text rest at within = omega (arith, length-append text rest)
+
+pub byte_in_front : (text rest : List ℕ) (at : ℕ) → at < length text → get_or (text ++ rest) at 0 ≡ get_or text at 0
+byte_in_front text rest at within = get_or_append_left text rest 0 at within
+
+pub lexed_blank_in : (text rest : List ℕ) (at : ℕ) → at < length text → is_blank (get_or text at 0) ≡ true → lexed {E = Infallible} (placed_from at (text ++ rest)) ≡ lexed (placed_from (at + 1) (text ++ rest))
+lexed_blank_in text rest at within is = lexed_blank (text ++ rest) at (at + 1) refl (within_front text rest at within) (ap is_blank (byte_in_front text rest at within) ∙ is)
+
+pub run_goes_in : (text rest : List ℕ) (at : ℕ) (phase next : Phase) → at < length text → after phase (get_or text at 0) ≡ Some next → run_from (text ++ rest) at phase ≡ run_from (text ++ rest) (at + 1) next
+run_goes_in text rest at phase next within is = run_goes_at (text ++ rest) at (at + 1) phase next refl (within_front text rest at within) (ap (after phase) (byte_in_front text rest at within) ∙ is)
+
+pub whole_goes : (phase : Phase) (token : Token) (byte : ℕ) → phase ≡ Whole token → after phase byte ≡ None
+whole_goes phase token byte is = rw is refl
+
+-- a run that ends within the text, or at its end
+pub run_ends_in : (text rest : List ℕ) (at : ℕ) (phase : Phase) → at < length text → after phase (get_or text at 0) ≡ None → Stops (text ++ rest) at phase
+run_ends_in text rest at phase within is = run_stops_at (text ++ rest) at phase (within_front text rest at within) (ap (after phase) (byte_in_front text rest at within) ∙ is)

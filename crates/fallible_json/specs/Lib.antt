@@ -10,6 +10,10 @@ pub mod Places
 pub mod Report
 pub mod Spelled
 pub mod Spelling
+pub mod Taking
+pub mod Texts
 pub mod Tokens
 pub mod Trees
 pub mod Wanted
+pub mod Writing
+pub mod WrittenTexts

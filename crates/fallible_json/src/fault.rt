@@ -1,10 +1,10 @@
 //! What is wrong with a text that is no JSON, and how that is told.
-ghost use Rattle.std.specs.Prelude.{◌≡◌, ◌++◌, OnErr, OnOk, codes, decimal};
+ghost use Rattle.std.specs.Prelude.{◌≡◌, ◌+◌, ◌≤◌, ◌^◌, ◌++◌, OnErr, OnOk, codes, decimal, length};
 ghost use Rattle.std.specs.Io.KnownBytes.{Appends};
-ghost use Rattle.fallible_json.specs.Faults.{byte_text, fault_at, status_of, text_of};
+ghost use Rattle.fallible_json.specs.Faults.{byte_text, fault_at, fault_from, status_of, text_of, text_of_text};
 ghost use Rattle.fallible_json.specs.Wanted.{wanted_text};
 
-use crate::place::place_of;
+use crate::place::place_after_bytes;
 use crate::wanted::Wanted;
 use program_io::fault::InputFault;
 use program_io::writing::WriteText;
@@ -25,10 +25,25 @@ pub enum JsonFault {
 pub(crate) fn fault_at(text: &[u8], place: usize, wanted: Wanted) -> JsonFault
     ensures { result ≡ fault_at text.now place wanted }
 {
-    let (line, column) = place_of(text, place);
+    fault_from((1, 1), text, place, wanted)
+}
+
+// The same of bytes of which the first has this line and column.
+pub(crate) fn fault_from(
+    origin: (usize, usize),
+    text: &[u8],
+    place: usize,
+    wanted: Wanted,
+) -> JsonFault
+    requires line { origin.0 + length text.now ≤ 2 ^ 63 }
+    requires column { origin.1 + length text.now ≤ 2 ^ 63 }
+    ensures { result ≡ fault_from origin text.now place wanted }
+{
     if place < text.len() {
+        let (line, column) = place_after_bytes(origin, &text[..place]);
         JsonFault::Unexpected(line, column, text[place], wanted)
     } else {
+        let (line, column) = place_after_bytes(origin, text);
         JsonFault::Ended(line, column, wanted)
     }
 }
@@ -126,5 +141,32 @@ impl InputFault for JsonFault {
     fn write_line<W: WriteText>(&self, errors: &mut W) -> io::Result<()> {
         self.write(errors)?;
         errors.write_bytes(b"\n")
+    }
+}
+
+/// A fault of one of several texts, which come one after another.
+#[derive(Clone, Copy, Debug, Drop, PartialEq, Eq)]
+pub struct TextFault {
+    /// Which text it is, from 1.
+    pub text: usize,
+    /// Its fault. The line and the column are those of the input.
+    pub fault: JsonFault,
+}
+
+impl InputFault for TextFault {
+    ghost status = { λ fault. status_of fault.fault };
+
+    ghost text = { text_of_text };
+
+    /// 1
+    fn status(&self) -> u8 {
+        self.fault.status()
+    }
+
+    fn write_line<W: WriteText>(&self, errors: &mut W) -> io::Result<()> {
+        if 1 < self.text {
+            errors.write_text(format_args!("text {}, ", self.text))?;
+        }
+        self.fault.write_line(errors)
     }
 }

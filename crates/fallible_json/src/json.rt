@@ -17,7 +17,7 @@ use std::convert::Infallible;
 use std::str::from_utf8;
 
 // How many bytes come before that at which a fault was met.
-fn fault_place(text: &[u8], fault: Misplaced<LexFault<Infallible>>) -> usize
+pub(crate) fn fault_place(text: &[u8], fault: Misplaced<LexFault<Infallible>>) -> usize
     ensures { result ≡ fault_place text.now fault }
 {
     match fault {
@@ -36,7 +36,7 @@ fn fault_place(text: &[u8], fault: Misplaced<LexFault<Infallible>>) -> usize
 }
 
 // What could come at a fault, where these tokens may.
-fn wanted_at(fault: Misplaced<LexFault<Infallible>>, tokens: Wanted) -> Wanted
+pub(crate) fn wanted_at(fault: Misplaced<LexFault<Infallible>>, tokens: Wanted) -> Wanted
     ensures { result ≡ wanted_at fault tokens }
 {
     match fault {

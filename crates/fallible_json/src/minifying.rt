@@ -22,7 +22,8 @@ pub enum Misplaced<E> {
 }
 
 // Adds a byte.
-fn add_byte(json: &mut Vec<u8>, byte: u8) -> Result<(), AllocError>
+#[inline(always)]
+pub(crate) fn add_byte(json: &mut Vec<u8>, byte: u8) -> Result<(), AllocError>
     ensures { OnOk result (json.new.items ≡ json.old.items ++ byte ∷ []) }
 {
     // No memory: a push fails only if an allocation does.
@@ -33,7 +34,13 @@ fn add_byte(json: &mut Vec<u8>, byte: u8) -> Result<(), AllocError>
 }
 
 // Adds the bytes of a text from the first to the last; none, where it has no such bytes.
-fn add_bytes(json: &mut Vec<u8>, text: &[u8], first: usize, last: usize) -> Result<(), AllocError>
+#[inline(always)]
+pub(crate) fn add_bytes(
+    json: &mut Vec<u8>,
+    text: &[u8],
+    first: usize,
+    last: usize,
+) -> Result<(), AllocError>
     ensures { OnOk result
         (json.new.items ≡ json.old.items ++ bytes_of text.now first last) }
 {

@@ -1,6 +1,6 @@
 //! The line and the column of a byte of a text.
-ghost use Rattle.std.specs.Prelude.{◌≡◌, ◌<◌, ◌^◌};
-ghost use Rattle.fallible_json.specs.Places.{after_byte, is_within, place_after_bytes, place_of};
+ghost use Rattle.std.specs.Prelude.{◌≡◌, ◌+◌, ◌-◌, ◌<◌, ◌≤◌, ◌^◌, drop, length, slice_index};
+ghost use Rattle.fallible_json.specs.Places.{chars_in, is_within, lines_in, place_after_bytes, place_of};
 
 // Whether a byte goes on with a character of UTF-8.
 fn is_within(byte: u8) -> bool
@@ -9,30 +9,59 @@ fn is_within(byte: u8) -> bool
     byte >= 128 && byte < 192
 }
 
-// The line and the column of what comes after a byte that has these.
-fn after_byte(place: (usize, usize), byte: u8) -> (usize, usize)
-    requires line { place.0 < 2 ^ 63 }
-    requires column { place.1 < 2 ^ 63 }
-    ensures { result ≡ after_byte place byte }
+// How many line feeds there are.
+fn lines_in(bytes: &[u8]) -> usize
+    ensures count { result ≡ lines_in bytes.now }
+    ensures few { result ≤ length bytes.now }
 {
-    if byte == b'\n' {
-        (place.0 + 1, 1)
-    } else if is_within(byte) {
-        place
-    } else {
-        (place.0, place.1 + 1)
+    let mut count = 0;
+    for byte in bytes {
+        if *byte == b'\n' {
+            count += 1;
+        }
     }
+    count
 }
 
-// The line and the column of what comes after these bytes.
-fn place_after_bytes(bytes: &[u8]) -> (usize, usize)
-    ensures { result ≡ place_after_bytes (1, 1) bytes.now }
+// How many characters begin.
+fn chars_in(bytes: &[u8]) -> usize
+    ensures count { result ≡ chars_in bytes.now }
+    ensures few { result ≤ length bytes.now }
 {
-    let mut place = (1, 1);
+    let mut count = 0;
     for byte in bytes {
-        place = after_byte(place, *byte);
+        if !is_within(*byte) {
+            count += 1;
+        }
     }
-    place
+    count
+}
+
+// Where the last line begins.
+fn line_start(bytes: &[u8]) -> usize
+    ensures within { result ≤ length bytes.now }
+    ensures last { lines_in (drop result bytes.now) ≡ 0 }
+    ensures first { 0 < result → slice_index bytes.now (result - 1) ≡ 10 }
+{
+    let mut at = bytes.len();
+    while 0 < at && bytes[at - 1] != b'\n' {
+        at -= 1;
+    }
+    at
+}
+
+// The line and the column of what comes after bytes of which the first has these.
+pub(crate) fn place_after_bytes(origin: (usize, usize), bytes: &[u8]) -> (usize, usize)
+    requires line { origin.0 + length bytes.now ≤ 2 ^ 63 }
+    requires column { origin.1 + length bytes.now ≤ 2 ^ 63 }
+    ensures { result ≡ place_after_bytes origin bytes.now }
+{
+    let lines = lines_in(bytes);
+    if lines == 0 {
+        return (origin.0, origin.1 + chars_in(bytes));
+    }
+    let start = line_start(bytes);
+    (origin.0 + lines, 1 + chars_in(&bytes[start..]))
 }
 
 /// The line and the column of a byte, both from 1. A line ends after a line feed, and each character before it in its line counts one for the column. After the last byte they are those of a further one.
@@ -40,8 +69,8 @@ pub fn place_of(text: &[u8], byte: usize) -> (usize, usize)
     ensures { result ≡ place_of text.now byte }
 {
     if byte < text.len() {
-        place_after_bytes(&text[..byte])
+        place_after_bytes((1, 1), &text[..byte])
     } else {
-        place_after_bytes(text)
+        place_after_bytes((1, 1), text)
     }
 }

@@ -1,12 +1,12 @@
 //! The tokens of a text that is in memory, read by runs of bytes.
-ghost use Rattle.std.specs.Prelude.{◌≡◌, ◌<◌, ◌≤◌, ◌-◌, Ok, false, length, slice_index};
+ghost use Rattle.std.specs.Prelude.{◌≡◌, ◌<◌, ◌≤◌, ◌++◌, ℕ, List, None, false, length, slice_index};
 ghost use Rattle.std.specs.declared.convert.Infallible.{Infallible};
 ghost use Rattle.fallible_iterator.specs.Laws.Showing.{lawful_listing};
 ghost use Rattle.fallible_iterator.specs.Lists.{Lists, items, numbered};
-ghost use Rattle.fallible_iterator.specs.Showing.{listing};
-ghost use Rattle.fallible_json.specs.Bytes.{KeptByDigits, placed_from, run_from, shows_tokens};
+ghost use Rattle.fallible_iterator.specs.Showing.{TakesShown, listing};
+ghost use Rattle.fallible_json.specs.Bytes.{IsSettled, KeptByDigits, LeavesAt, placed_from, run_from, shows_tokens};
 ghost use Rattle.fallible_json.specs.Lexing.{lexed};
-ghost use Rattle.fallible_json.specs.Tokens.{is_blank};
+ghost use Rattle.fallible_json.specs.Tokens.{after, is_blank};
 ghost use Rattle.fallible_json.specs.declared.token.Phase.{Phase};
 ghost use Rattle.fallible_json.specs.declared.token.Phase.TheVariants.{Inside};
 
@@ -17,8 +17,10 @@ use std::convert::Infallible;
 
 // Where the blanks end that stand at a place.
 fn blanks_end(text: &[u8], from: usize) -> usize
-    ensures tokens { lexed {E = Infallible} (placed_from from text.now)
-        ≡ lexed (placed_from result text.now) }
+    ensures later { from ≤ result }
+    ensures within { from ≤ length text.now → result ≤ length text.now }
+    ensures tokens { (rest : List ℕ) → lexed {E = Infallible} (placed_from from (text.now ++ rest))
+        ≡ lexed (placed_from result (text.now ++ rest)) }
     ensures ends { result < length text.now → is_blank (slice_index text.now result) ≡ false }
 {
     let mut at = from;
@@ -32,7 +34,9 @@ fn blanks_end(text: &[u8], from: usize) -> usize
 fn chars_end(text: &[u8], from: usize) -> usize
     requires { 0 < from }
     ensures later { from ≤ result }
-    ensures run { run_from text.now from Inside ≡ run_from text.now result Inside }
+    ensures within { from ≤ length text.now → result ≤ length text.now }
+    ensures run { (rest : List ℕ) → run_from (text.now ++ rest) from Inside
+        ≡ run_from (text.now ++ rest) result Inside }
 {
     let mut at = from;
     while at < text.len() {
@@ -49,8 +53,9 @@ fn chars_end(text: &[u8], from: usize) -> usize
 fn digits_end(text: &[u8], from: usize) -> usize
     requires { 0 < from }
     ensures later { from ≤ result }
-    ensures run { (phase : Phase) → KeptByDigits phase
-        → run_from text.now from phase ≡ run_from text.now result phase }
+    ensures within { from ≤ length text.now → result ≤ length text.now }
+    ensures run { (rest : List ℕ) (phase : Phase) → KeptByDigits phase
+        → run_from (text.now ++ rest) from phase ≡ run_from (text.now ++ rest) result phase }
 {
     let mut at = from;
     while at < text.len() && text[at].is_ascii_digit() {
@@ -63,7 +68,9 @@ fn digits_end(text: &[u8], from: usize) -> usize
 fn phase_end(text: &[u8], from: usize, phase: Phase) -> usize
     requires { 0 < from }
     ensures later { from ≤ result }
-    ensures run { run_from text.now from phase ≡ run_from text.now result phase }
+    ensures within { from ≤ length text.now → result ≤ length text.now }
+    ensures run { (rest : List ℕ) → run_from (text.now ++ rest) from phase
+        ≡ run_from (text.now ++ rest) result phase }
 {
     match phase {
         Phase::Inside => chars_end(text, from),
@@ -76,8 +83,11 @@ fn phase_end(text: &[u8], from: usize, phase: Phase) -> usize
 fn run_in(text: &[u8], from: usize, begun: Phase) -> (usize, Phase)
     requires { 0 < from }
     ensures later { from ≤ result.0 }
-    ensures run { run_from text.now from begun
-        ≡ (Ok (result.0 - 1, result.1), placed_from result.0 text.now) }
+    ensures within { from ≤ length text.now → result.0 ≤ length text.now }
+    ensures run { (rest : List ℕ) → run_from (text.now ++ rest) from begun
+        ≡ run_from (text.now ++ rest) result.0 result.1 }
+    ensures ends { result.0 < length text.now
+        → after result.1 (slice_index text.now result.0) ≡ None }
 {
     let mut at = from;
     let mut phase = begun;
@@ -103,6 +113,33 @@ fn run_in(text: &[u8], from: usize, begun: Phase) -> (usize, Phase)
     }
 }
 
+// A token, after the places of its first byte and its last.
+type Drawn = Result<Option<(usize, usize, Token)>, LexFault<Infallible>>;
+
+// The token that comes next at a place, and where those after it are looked for.
+pub(crate) fn token_at(text: &[u8], place: usize) -> (Drawn, usize)
+    ensures draws { TakesShown (lexed (placed_from place text.now)) result.0
+        (lexed (placed_from result.1 text.now)) }
+    ensures settled { (rest : List ℕ) → IsSettled text.now result.0
+        → TakesShown (lexed (placed_from place (text.now ++ rest))) result.0
+        (lexed (placed_from result.1 (text.now ++ rest))) }
+    ensures leaves { LeavesAt text.now place result.0 result.1 }
+{
+    let first = blanks_end(text, place);
+    if text.len() <= first {
+        return (Ok(None), place);
+    }
+    let byte = text[first];
+    if let Some(token) = sign_of(byte) {
+        return (Ok(Some((first, first, token))), first + 1);
+    }
+    let Some(begun) = letter_begun(byte) else {
+        return (Err(LexFault::Unknown(first)), first + 1);
+    };
+    let (end, phase) = run_in(text, first + 1, begun);
+    (closed(first, end - 1, phase), end)
+}
+
 // The tokens of a text, each after the places of its first byte and its last, as `Tokens` yields them of `PlacedBytes`. Blanks, digits and the bytes of a string are stepped over a run at a time.
 #[derive(Drop)]
 pub(crate) struct TextTokens<'a> {
@@ -119,22 +156,9 @@ impl FallibleIterator for TextTokens<'_> {
     ghost contract = { listing shows_tokens };
 
     fn next(&mut self) -> Result<Option<(usize, usize, Token)>, LexFault<Infallible>> {
-        let first = blanks_end(self.text, self.place);
-        if self.text.len() <= first {
-            return Ok(None);
-        }
-        let byte = self.text[first];
-        if let Some(token) = sign_of(byte) {
-            self.place = first + 1;
-            return Ok(Some((first, first, token)));
-        }
-        let Some(begun) = letter_begun(byte) else {
-            self.place = first + 1;
-            return Err(LexFault::Unknown(first));
-        };
-        let (end, phase) = run_in(self.text, first + 1, begun);
-        self.place = end;
-        closed(first, end - 1, phase)
+        let (drawn, place) = token_at(self.text, self.place);
+        self.place = place;
+        drawn
     }
 
     fn size_hint(&self) -> (usize, Option<usize>) {

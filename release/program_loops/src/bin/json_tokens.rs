@@ -1,4 +1,4 @@
-//! A JSON text without the blanks between its tokens, as `json_tokens` prints it, by one loop over the tokens. It makes the same checks, and tells the line and the column of a fault, without what could come there.
+//! A JSON text without the blanks between its tokens, as `json_tokens` prints it where the input is one text, by one loop over the tokens, once it was read whole. It makes the same checks, and tells the line and the column of a fault, without what could come there.
 use std::io::{self, Read, Write};
 use std::process::ExitCode;
 
