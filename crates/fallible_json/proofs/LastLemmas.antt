@@ -1,9 +1,8 @@
 -- What is taken of the last bytes, a token at a time.
-use Rattle.std.specs.Prelude.{◌≡◌, ℕ, ◌+◌, ◌<◌, ◌≤◌, Some, None, Ok, Err, Result, OnOk, List, [], ◌∷◌, ◌++◌, length, map}
+use Rattle.std.specs.Prelude.{◌≡◌, ℕ, ◌≤◌, Some, None, Ok, Err, Result, OnOk, List, [], ◌∷◌, ◌++◌, length}
 use Rattle.std.specs.declared.convert.Infallible.{Infallible}
 use Rattle.std.proofs.Common.{arith, refl, sym, ap, subst, ◌∙◌, append-nil, length-append}
 use Rattle.std.proofs.lemmas.List.{map-append}
-use Rattle.fallible_iterator.specs.Lists.{result_answer}
 use Rattle.fallible_iterator.specs.Showing.{TakesShown}
 use Rattle.fallible_iterator.specs.Traces.{Answered}
 use Rattle.fallible_json.specs.Bytes.{LeavesAt, placed_from}
@@ -12,7 +11,7 @@ use Rattle.fallible_json.specs.Grammar.{State, after_token}
 use Rattle.fallible_json.specs.Json.{fault_place, wanted_at}
 use Rattle.fallible_json.specs.Lexing.{Lexeme, lexed}
 use Rattle.fallible_json.specs.Taking.{EndTexts, EndsAll, FindsLastFault, TakesAll, TakesToken, begun_of, told_of, ◌before◌}
-use Rattle.fallible_json.specs.Texts.{Text, Tokens, at_end, complete, is_joined, texts_from}
+use Rattle.fallible_json.specs.Texts.{Tokens, at_end, complete, is_joined, texts_from}
 use Rattle.fallible_json.specs.Wanted.{wanted_of}
 use Rattle.fallible_json.specs.declared.fault.JsonFault.{JsonFault}
 use Rattle.fallible_json.specs.declared.lexer.LexFault.{LexFault}

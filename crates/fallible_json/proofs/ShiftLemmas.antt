@@ -1,22 +1,20 @@
 -- Bytes that stand after others have the same tokens and the same texts, at places that are as many further on.
-use Rattle.std.specs.Prelude.{◌≡◌, ℕ, suc, ◌+◌, ◌-◌, ◌<◌, ◌≤◌, ◌&&◌, ◌==◌, nat_le, nat_lt, not, Bool, true, false, if◌then◌else◌, Option, Some, None, Result, Ok, Err, List, [], ◌∷◌, ◌++◌, length, map, filter, take, drop, slice_index}
+use Rattle.std.specs.Prelude.{◌≡◌, ℕ, suc, ◌+◌, ◌-◌, ◌&&◌, nat_le, nat_lt, Bool, true, false, Option, Some, None, Result, Ok, Err, List, [], ◌∷◌, ◌++◌, length, map, take, drop, slice_index}
 use Rattle.std.specs.declared.convert.Infallible.{Infallible}
-use Rattle.std.proofs.Common.{arith, refl, sym, ap, subst, ◌∙◌, inl, inr, le-leb, length-append, get_or-append-add}
-use Rattle.std.proofs.lemmas.Bool.Decides.{leb_tells, nat_tests}
+use Rattle.std.proofs.Common.{arith, refl, sym, ap, subst, ◌∙◌, length-append, get_or-append-add}
+use Rattle.std.proofs.lemmas.Bool.Decides.{nat_tests}
 use lib.Seq.{drop-append-add, take-append-add}
 use Rattle.fallible_iterator.specs.Lists.{items, numbered}
 use Rattle.fallible_json.specs.Bytes.{is_open, is_word, placed_from}
 use Rattle.fallible_json.specs.Faults.{fault_from}
-use Rattle.fallible_json.specs.Grammar.{State, after_token, begin, is_whole}
-use Rattle.fallible_json.specs.Json.{fault_place, not_text_at, wanted_at}
+use Rattle.fallible_json.specs.Grammar.{State, after_token, begin}
+use Rattle.fallible_json.specs.Json.{fault_place}
 use Rattle.fallible_json.specs.Lexing.{Begun, Lexeme, begun_at, closed, lexed, lexed_after, lexed_from, lexeme_or}
 use Rattle.fallible_json.specs.Minifying.{bytes_of}
 use Rattle.fallible_json.specs.Places.{place_after_bytes}
-use Rattle.fallible_json.specs.Texts.{Ending, complete, cut, Text, Tokens, at_ending, ends_text, ends_word, faulty, is_begin, is_joined, texts_after, texts_from, tokens_by, where_ends, where_stands}
+use Rattle.fallible_json.specs.Texts.{Ending, complete, cut, Tokens, ends_text, is_joined, texts_after, texts_from, tokens_by, where_ends}
 use Rattle.fallible_json.specs.Tokens.{after, begun_by, is_blank, token_of}
 use Rattle.fallible_json.specs.Wanted.{wanted_in, wanted_of}
-use Rattle.fallible_json.specs.declared.fault.JsonFault.{JsonFault}
-use Rattle.fallible_json.specs.declared.fault.JsonFault.TheVariants as told
 use Rattle.fallible_json.specs.declared.lexer.LexFault.{LexFault}
 use Rattle.fallible_json.specs.declared.lexer.LexFault.TheVariants.{Source, Unknown, Unfinished}
 use Rattle.fallible_json.specs.declared.minifying.Misplaced.TheVariants as misplaced

@@ -1,17 +1,16 @@
 -- What a token, the end of a text and the end of the bytes make of what is begun.
-use Rattle.std.specs.Prelude.{◌≡◌, ℕ, ◌+◌, ◌-◌, ◌<◌, ◌≤◌, nat_le, nat_lt, not, ◌&&◌, if◌then◌else◌, Bool, true, false, Option, Some, None, Result, Ok, Err, List, [], ◌∷◌, ◌++◌, length, take, drop, map, reverse}
+use Rattle.std.specs.Prelude.{◌≡◌, ℕ, ◌+◌, ◌-◌, ◌<◌, ◌≤◌, nat_le, nat_lt, not, ◌&&◌, Bool, true, false, Ok, Err, List, [], ◌∷◌, ◌++◌, length, take, drop, reverse}
 use Rattle.std.proofs.Common.{arith, refl, ap, sym, ◌∙◌, append-nil, append_assoc}
 use Rattle.std.proofs.lemmas.Bool.{leb-true, lt-ltb}
 use Rattle.std.proofs.lemmas.List.{drop-append-le, take-append-le, take-append-drop, length-append, length-drop}
 use Rattle.std.proofs.Math.Seq.{take-length, drop-length}
 use Rattle.fallible_json.specs.Faults.{fault_from}
-use Rattle.fallible_json.specs.Grammar.{State, after_token, begin, is_whole}
+use Rattle.fallible_json.specs.Grammar.{State, is_whole}
 use Rattle.fallible_json.specs.Lexing.{Lexeme}
 use Rattle.fallible_json.specs.Minifying.{bytes_of}
-use Rattle.fallible_json.specs.Taking.{AddsToken, EndsAll, EndsText, EndTexts, TakesToken, ◌before◌, begun_of, ended_of}
-use Rattle.fallible_json.specs.Texts.{Ending, Text, Tokens, at_end, ends_text, is_begin, is_joined, lines_of, texts_from, where_ends}
+use Rattle.fallible_json.specs.Taking.{AddsToken, EndsAll, EndsText, EndTexts, TakesToken, begun_of, ended_of}
+use Rattle.fallible_json.specs.Texts.{Ending, Tokens, at_end, ends_text, is_begin, is_joined, lines_of, texts_from, where_ends}
 use Rattle.fallible_json.specs.Wanted.{wanted_of}
-use Rattle.fallible_json.specs.declared.grammar.Expects.{Expects}
 use Rattle.fallible_json.specs.declared.grammar.Expects.TheVariants.{Value, ValueOrEnd, NameOrEnd, Name, Separator, AfterValue}
 use Rattle.fallible_json.specs.declared.texts.Texts.{Texts}
 

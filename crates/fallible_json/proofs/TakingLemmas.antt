@@ -1,23 +1,19 @@
 -- What is taken of bytes, a token at a time.
-use Rattle.std.specs.Prelude.{◌≡◌, ℕ, ◌+◌, ◌*◌, ◌<◌, ◌≤◌, ◌^◌, Bool, true, false, nat_le, nat_lt, Some, None, Ok, Err, Result, List, [], ◌∷◌, ◌++◌, length, map, take, drop, flat_map}
+use Rattle.std.specs.Prelude.{◌≡◌, ℕ, ◌+◌, ◌<◌, ◌≤◌, Bool, true, false, nat_lt, None, Ok, Err, List, [], ◌∷◌, ◌++◌, length, take, drop}
 use Rattle.std.specs.declared.convert.Infallible.{Infallible}
-use Rattle.std.proofs.Common.{arith, refl, sym, ap, subst, subst₂, ◌∙◌, append-nil, append_assoc, length-append, length-take-le, take-append-drop, inl, inr}
-use Rattle.std.proofs.lemmas.List.{map-append, take-append-le}
+use Rattle.std.proofs.Common.{arith, refl, sym, ap, subst, subst₂, ◌∙◌, append-nil, append_assoc, length-append, length-take-le, take-append-drop}
+use Rattle.std.proofs.lemmas.List.{take-append-le}
 use Rattle.std.proofs.lemmas.Bool.Decides.{nat_tests}
-use Rattle.fallible_iterator.specs.Lists.{items, numbered}
-use Rattle.fallible_json.specs.Bytes.{placed_from}
 use Rattle.fallible_json.specs.Faults.{fault_from}
-use Rattle.fallible_json.specs.Grammar.{State, after_token, begin, is_whole}
+use Rattle.fallible_json.specs.Grammar.{State, after_token}
 use Rattle.fallible_json.specs.Json.{fault_place, not_text_at, wanted_at}
-use Rattle.fallible_json.specs.Lexing.{Lexeme, lexed}
+use Rattle.fallible_json.specs.Lexing.{Lexeme}
 use Rattle.fallible_json.specs.Places.{place_after_bytes}
-use Rattle.fallible_json.specs.Taking.{CountsUpTo, EndTexts, EndsAll, FindsFault, FindsLastFault, Fits, IsFront, Takes, TakesAll, TakesToken, TakesUpTo, begun_of, ended_of, told_of, tokens_from, ◌before◌}
-use Rattle.fallible_json.specs.Texts.{Ending, Text, Tokens, at_end, complete, cut, lines_of, texts_after, texts_from, tokens_by}
+use Rattle.fallible_json.specs.Taking.{EndTexts, FindsFault, IsFront, Takes, TakesToken, TakesUpTo, begun_of, ended_of, told_of, tokens_from, ◌before◌}
+use Rattle.fallible_json.specs.Texts.{Ending, Text, Tokens, cut, lines_of, texts_after, texts_from}
 use Rattle.fallible_json.specs.Wanted.{wanted_of}
-use Rattle.fallible_json.specs.declared.fault.JsonFault.{JsonFault}
 use Rattle.fallible_json.specs.declared.lexer.LexFault.{LexFault}
 use Rattle.fallible_json.specs.declared.lexer.LexFault.TheVariants.{Source, Unknown, Unfinished}
-use Rattle.fallible_json.specs.declared.minifying.Misplaced.{Misplaced}
 use Rattle.fallible_json.specs.declared.minifying.Misplaced.TheVariants as misplaced
 use Rattle.fallible_json.specs.declared.texts.Front.TheVariants.{Faulty}
 use Rattle.fallible_json.specs.declared.texts.Front.TheVariants as front

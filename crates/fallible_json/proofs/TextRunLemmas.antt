@@ -1,5 +1,5 @@
 -- The texts of an input are what is written of trees, and its fault is that of the tokens after these.
-use Rattle.std.specs.Prelude.{◌≡◌, ◌⊎◌, ℕ, zero, suc, ◌≤◌, ◌+◌, ◌==◌, if◌then◌else◌, ⊤, Bool, true, false, Option, Some, None, option_and_then, option_map, Result, Ok, Err, List, [], ◌∷◌, ◌++◌, length, map, take}
+use Rattle.std.specs.Prelude.{◌≡◌, ◌⊎◌, ℕ, zero, suc, ◌≤◌, ◌==◌, if◌then◌else◌, ⊤, Bool, true, false, Option, Some, None, option_and_then, option_map, Result, Ok, Err, List, [], ◌∷◌, ◌++◌, length, map, take}
 use Rattle.std.specs.Str.{IsUtf8, is_utf8}
 use Rattle.std.specs.Str.Lossy.{utf8_valid_len, valid_len_up_to}
 use Rattle.std.specs.declared.convert.Infallible.{Infallible}
@@ -10,25 +10,24 @@ use Rattle.std.proofs.lemmas.Bool.Decides.{Decides-eqb}
 use Rattle.std.proofs.lemmas.List.{map-append}
 use Rattle.std.proofs.lemmas.Str.{IsUtf8-from_is_utf8, IsUtf8-nil, utf8_valid_len-IsUtf8}
 use Rattle.fallible_iterator.specs.Lists.{items, numbered}
-use Rattle.fallible_json.specs.Faults.{fault_at, fault_from}
+use Rattle.fallible_json.specs.Faults.{fault_from}
 use Rattle.fallible_json.specs.Grammar.{IsJsonText, State, after_token, after_tokens, begin, is_whole}
 use Rattle.fallible_json.specs.Json.{IsJson, not_text_at, told}
 use Rattle.fallible_json.specs.Lexing.{Lexeme, lexed}
 use Rattle.fallible_json.specs.Minifying.{bytes_of, bytes_of_all, minified_or_wanted, wanting_from}
 use Rattle.fallible_json.specs.Places.{place_after_bytes, place_of}
 use Rattle.fallible_json.specs.Taking.{◌before◌}
-use Rattle.fallible_json.specs.Texts.{Ending, complete, cut, Text, Tokens, at_end, at_ending, ends_text, is_begin, texts_after, texts_from, texts_of, tokens_by}
+use Rattle.fallible_json.specs.Texts.{Ending, complete, cut, Text, Tokens, at_end, ends_text, is_begin, texts_after, texts_from, texts_of, tokens_by}
 use Rattle.fallible_json.specs.Trees.{BeginsTree, Tree, tokens_of, written, text, number, literal, array, object, written_values, written_members}
 use Rattle.fallible_json.specs.Wanted.{wanted_of}
 use Rattle.fallible_json.specs.WrittenTexts.{BeginWithPart, BeginWithTexts}
 use Rattle.fallible_json.specs.declared.fault.JsonFault.{JsonFault}
-use Rattle.fallible_json.specs.declared.grammar.Container.{Container}
 use Rattle.fallible_json.specs.declared.grammar.Expects.TheVariants.{Value, ValueOrEnd, NameOrEnd, Name, Separator, AfterValue}
 use Rattle.fallible_json.specs.declared.lexer.LexFault.{LexFault}
 use Rattle.fallible_json.specs.declared.token.Token.{Token}
 use Rattle.fallible_json.specs.declared.token.Token.TheVariants.{BeginArray, EndArray, BeginObject, EndObject, NameSeparator, ValueSeparator, Text as string, Number, Literal}
 use Rattle.fallible_json.proofs.BeginningLemmas.{after_more, begins_tree}
-use Rattle.fallible_json.proofs.JsonLemmas.{is_json_of_tree, tree_of_json}
+use Rattle.fallible_json.proofs.JsonLemmas.{tree_of_json}
 use Rattle.fallible_json.proofs.LexemeLemmas.{alive_of_text}
 use Rattle.fallible_json.proofs.MinifyingLemmas.{minified_ends, minified_fails, minified_goes_on, minified_stops}
 use Rattle.fallible_json.proofs.TakenLemmas.{whole_no_begin}

@@ -1,5 +1,5 @@
 -- JSON texts one after another, of their bytes.
-use Rattle.std.specs.Prelude.{◌≡◌, ℕ, ◌+◌, ◌==◌, ◌||◌, ◌&&◌, nat_le, nat_lt, not, if◌then◌else◌, Bool, true, false, Option, Some, None, Result, Ok, Err, List, [], ◌∷◌, ◌++◌, length, take, filter, flat_map, slice_index}
+use Rattle.std.specs.Prelude.{ℕ, ◌+◌, ◌==◌, ◌||◌, ◌&&◌, nat_lt, not, if◌then◌else◌, Bool, true, false, Option, Some, None, Result, Ok, Err, List, [], ◌∷◌, ◌++◌, length, take, filter, flat_map, slice_index}
 use Rattle.std.specs.Option.{is_some}
 use Rattle.std.specs.Str.Lossy.{utf8_valid_len}
 use Rattle.std.specs.declared.convert.Infallible.{Infallible}
@@ -16,10 +16,8 @@ use Rattle.fallible_json.specs.Wanted.{wanted_of}
 use Rattle.fallible_json.specs.declared.fault.JsonFault.{JsonFault}
 use Rattle.fallible_json.specs.declared.grammar.Expects.TheVariants.{Value}
 use Rattle.fallible_json.specs.declared.lexer.LexFault.{LexFault}
-use Rattle.fallible_json.specs.declared.lexer.LexFault.TheVariants.{Unfinished}
 use Rattle.fallible_json.specs.declared.minifying.Misplaced.TheVariants as misplaced
 use Rattle.fallible_json.specs.declared.token.Token.{Token}
-use Rattle.fallible_json.specs.declared.token.Token.TheVariants.{Number, Literal}
 use Rattle.fallible_json.specs.declared.wanted.Wanted.{Wanted}
 
 -- How bytes end: where the input does, or where what follows is no UTF-8 or could not be read.

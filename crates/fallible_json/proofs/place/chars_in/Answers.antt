@@ -1,5 +1,5 @@
 -- A byte that begins a character, or another one.
-use Rattle.std.proofs.Common.{arith, rules, ◌≡◌, ◌+◌, ◌<◌, true, false, length, get_or}
+use Rattle.std.proofs.Common.{arith, rules, ◌≡◌, true, false, get_or}
 use Rattle.fallible_json.specs.Places.{is_within}
 use Rattle.fallible_json.proofs.PlaceLemmas.{chars_more, chars_none}
 use Rattle.fallible_json.proofs.place.chars_in.Goals.{then-not-is_within, else-not-is_within}

@@ -1,5 +1,5 @@
 -- A line feed more, or another byte.
-use Rattle.std.proofs.Common.{arith, rules, ◌≡◌, ◌+◌, ◌<◌, ◌==◌, true, false, length, get_or}
+use Rattle.std.proofs.Common.{arith, rules, ◌≡◌, ◌==◌, true, false, get_or}
 use Rattle.fallible_json.proofs.PlaceLemmas.{lines_more, lines_none}
 use Rattle.fallible_json.proofs.place.lines_in.Goals.{then-byte-eq10, else-byte-eq10}
 use Rattle.fallible_json.proofs.place.lines_in.Goals as goal

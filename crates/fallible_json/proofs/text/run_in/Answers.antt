@@ -1,5 +1,5 @@
 -- Each step goes on with the run, or ends it: at a token that nothing goes on with, at the end, and at another byte.
-use Rattle.std.proofs.Common.{arith, rules, ◌∙◌, ◌+◌, refl, get_or}
+use Rattle.std.proofs.Common.{arith, rules, ◌∙◌, refl, get_or}
 use Rattle.fallible_json.specs.declared.token.Phase.TheVariants.{Whole}
 use Rattle.fallible_json.specs.declared.token.Token.TheVariants.{Text}
 use Rattle.fallible_json.proofs.TextTokensLemmas.{quote_goes, run_goes_in, whole_goes}

@@ -1,10 +1,10 @@
 -- A token or a fault that a byte could change, and one that none could.
-use Rattle.std.proofs.Common.{arith, rules, refl, sym, subst, ap, ◌≡◌, ◌+◌, ◌≤◌, ◌<◌, ◌∙◌, ◌&&◌, true, false, Ok, Err, Some, None, length}
+use Rattle.std.proofs.Common.{arith, rules, refl, ◌≡◌, ◌+◌, ◌≤◌, ◌<◌, true, Ok, Err, Some, length}
 use Rattle.std.specs.Prelude.{nat_le}
 use Rattle.std.proofs.lemmas.Bool.Decides.{nat_tests}
-use Rattle.fallible_json.specs.Bytes.{is_open, is_word}
+use Rattle.fallible_json.specs.Bytes.{is_word}
 use Rattle.fallible_json.specs.declared.lexer.LexFault.TheVariants.{Unfinished, Unknown}
-use Rattle.fallible_json.proofs.FrontLemmas.{front_of_fault, front_of_open, front_of_token, past_open, past_word}
+use Rattle.fallible_json.proofs.FrontLemmas.{front_of_fault, front_of_open, past_open, past_word}
 use Rattle.fallible_json.proofs.texts.front_at.Goals as goal
 
 pub returns-then-bytes-last : goal.returns-then-bytes-last

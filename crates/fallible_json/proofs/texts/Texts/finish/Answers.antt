@@ -1,5 +1,5 @@
 -- A token is taken, a fault is told, and what is begun ends.
-use Rattle.std.proofs.Common.{arith, rules, refl, sym, ap, subst, subst₂, ◌≡◌, ◌∙◌, ◌*◌, ◌+◌, ◌<◌, Err, Ok, Some, None}
+use Rattle.std.proofs.Common.{rules, sym, ap, subst, subst₂, ◌≡◌, ◌∙◌, Err}
 use Rattle.fallible_iterator.specs.Fault.TheVariants.{Source}
 use Rattle.fallible_json.specs.Taking.{FindsLastFault}
 use Rattle.fallible_json.proofs.LastLemmas.{on_ok, last_all, last_break, last_fault, last_misplaced, last_more, last_none}

@@ -1,5 +1,5 @@
 -- A token is taken, and a fault is told.
-use Rattle.std.proofs.Common.{arith, rules, refl, sym, ap, subst, subst₂, ◌≡◌, ◌∙◌, Err}
+use Rattle.std.proofs.Common.{sym, ap, subst, subst₂, ◌≡◌, ◌∙◌, Err}
 use Rattle.fallible_iterator.specs.Fault.TheVariants.{Source}
 use Rattle.fallible_json.specs.Taking.{FindsFault}
 use Rattle.fallible_json.proofs.TakingLemmas.{finds_break, finds_misplaced, takes_more, takes_none}
