@@ -3219,7 +3219,7 @@ pub trait FallibleItertools: FallibleIterator + Sized {
     /// ensures lists { (l : List (Result Self.Item Self.Error))
     ///     → list.Lists Self.contract.steps self l
     ///     → ClonesAreEqual Self.Item.eq Self.Item.is_clone
-    ///     → ListsUnlessRefused ⊥ (seen_as unique_parts
+    ///     → ListsUntilRefused (λ x y. y ≡ x) (seen_as unique_parts
     ///     (unique_contract Self.Item.eq Self.Item.is_clone Self.Item.is_infallible
     ///     Self.Error.from_gives Self.contract)).steps Self.Error.from_gives result
     ///     (unique_of Self.Item.eq l) }
@@ -3261,7 +3261,7 @@ pub trait FallibleItertools: FallibleIterator + Sized {
     /// ensures empty { IsEmpty (unique_by.unique_by_keys result) }
     /// ensures closure { unique_by.unique_by_closure result ≡ f }
     /// ensures lists { OverListWith (list.Acts (call_by_reference F.FnMut) f) Self.contract.steps
-    ///     self (λ h l. ListsUnlessRefused ⊥ (seen_as unique_by.unique_by_parts
+    ///     self (λ h l. ListsUntilRefused (λ x y. y ≡ x) (seen_as unique_by.unique_by_parts
     ///     (unique_by.unique_by_contract K.eq Self.Error.from_gives Self.contract F.FnMut)).steps
     ///     Self.Error.from_gives result (unique_by.unique_by_key K.eq h l)) }
     /// ```
@@ -3298,7 +3298,7 @@ pub trait FallibleItertools: FallibleIterator + Sized {
     /// ensures empty { hash.IsEmpty (duplicates_came result) }
     /// ensures lists { (l : List (Result Self.Item Self.Error))
     ///     → list.Lists Self.contract.steps self l
-    ///     → ListsUnlessRefused ⊤ (seen_as duplicates_parts
+    ///     → ListsUnlessRefused (seen_as duplicates_parts
     ///     (duplicates_contract Self.Item.eq Self.Error.from_gives Self.contract)).steps
     ///     Self.Error.from_gives result (duplicates_of Self.Item.eq l) }
     /// ```

@@ -3,7 +3,7 @@
 use crate::base::Turn;
 use crate::base::{alone, pushed};
 use crate::fallible_itertools_adapters::staging::{
-    AnswerAndDue, Made, Stage, Stop, drive_stage, let_go, next_until, one, stopped, with_held,
+    AnswerAndDue, Emitted, Stage, Stop, drive_stage, let_go, next_until, one, stopped, with_held,
 };
 use alloc::vec::Vec;
 use fallible_iterator::FallibleIterator;
@@ -77,7 +77,11 @@ impl<X, K: PartialEq, E, F: FnMut(&X) -> Result<K, E>> Stage<(Option<(K, Vec<X>)
     type Due = Stop<E>;
 
     #[inline(always)]
-    fn on_item(&self, p: &mut (Option<(K, Vec<X>)>, F), item: X) -> Made<(K, Vec<X>), Stop<E>, E> {
+    fn on_item(
+        &self,
+        p: &mut (Option<(K, Vec<X>)>, F),
+        item: X,
+    ) -> Emitted<(K, Vec<X>), Stop<E>, E> {
         match (p.1)(&item) {
             Ok(key) => grouped(&mut p.0, key, item),
             Err(e) => let_go(p.0.take(), Some(e)),
@@ -89,7 +93,7 @@ impl<X, K: PartialEq, E, F: FnMut(&X) -> Result<K, E>> Stage<(Option<(K, Vec<X>)
         &self,
         p: &mut (Option<(K, Vec<X>)>, F),
         stop: Stop<E>,
-    ) -> Made<(K, Vec<X>), Stop<E>, E> {
+    ) -> Emitted<(K, Vec<X>), Stop<E>, E> {
         let_go(p.0.take(), stop)
     }
 
@@ -104,7 +108,7 @@ fn grouped<X, K: PartialEq, E>(
     group: &mut Option<(K, Vec<X>)>,
     key: K,
     item: X,
-) -> Made<(K, Vec<X>), Stop<E>, E> {
+) -> Emitted<(K, Vec<X>), Stop<E>, E> {
     let room = match group {
         Some((of, items)) => {
             if *of == key {

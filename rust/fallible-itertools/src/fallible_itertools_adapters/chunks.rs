@@ -3,7 +3,8 @@
 use crate::base::Turn;
 use crate::base::{alone, pushed};
 use crate::fallible_itertools_adapters::staging::{
-    AnswerAndDue, Made, Stage, Stop, drive_stage, let_go, made_of, one, put_due, stopped, with_held,
+    AnswerAndDue, Emitted, Stage, Stop, drive_stage, emitted_of, let_go, one, put_due, stopped,
+    with_held,
 };
 use alloc::vec::Vec;
 use fallible_iterator::FallibleIterator;
@@ -81,8 +82,8 @@ fn filled<I: FallibleIterator>(
     adapter: &ChunksStage,
 ) -> AnswerAndDue<Vec<I::Item>, Stop<I::Error>, I::Error> {
     loop {
-        match made_of(it.next(), held, adapter) {
-            Some(made) => return made,
+        match emitted_of(it.next(), held, adapter) {
+            Some(emitted) => return emitted,
             None => {}
         }
     }
@@ -97,7 +98,11 @@ impl<X, E> Stage<((usize, Option<Vec<X>>), ()), X, E> for ChunksStage {
     type Due = Stop<E>;
 
     #[inline(always)]
-    fn on_item(&self, p: &mut ((usize, Option<Vec<X>>), ()), item: X) -> Made<Vec<X>, Stop<E>, E> {
+    fn on_item(
+        &self,
+        p: &mut ((usize, Option<Vec<X>>), ()),
+        item: X,
+    ) -> Emitted<Vec<X>, Stop<E>, E> {
         if grown(p.0.0, &mut p.0.1, item) < p.0.0 {
             None
         } else {
@@ -113,7 +118,7 @@ impl<X, E> Stage<((usize, Option<Vec<X>>), ()), X, E> for ChunksStage {
         &self,
         p: &mut ((usize, Option<Vec<X>>), ()),
         stop: Stop<E>,
-    ) -> Made<Vec<X>, Stop<E>, E> {
+    ) -> Emitted<Vec<X>, Stop<E>, E> {
         let_go(p.0.1.take(), stop)
     }
 

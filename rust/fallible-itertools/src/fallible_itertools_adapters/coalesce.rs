@@ -2,7 +2,7 @@
 
 use crate::base::Turn;
 use crate::fallible_itertools_adapters::staging::{
-    AnswerAndDue, Made, Stage, Stop, drive_stage, let_go, next_until, one, stopped, with_held,
+    AnswerAndDue, Emitted, Stage, Stop, drive_stage, let_go, next_until, one, stopped, with_held,
 };
 use fallible_iterator::FallibleIterator;
 
@@ -77,22 +77,22 @@ impl<X, E, F: FnMut(X, X) -> Result<Result<X, (X, X)>, E>> Stage<(Option<X>, F),
     type Due = Stop<E>;
 
     #[inline(always)]
-    fn on_item(&self, p: &mut (Option<X>, F), item: X) -> Made<X, Stop<E>, E> {
+    fn on_item(&self, p: &mut (Option<X>, F), item: X) -> Emitted<X, Stop<E>, E> {
         match p.0.take() {
             None => {
                 p.0 = Some(item);
                 None
             }
             Some(first) => {
-                let (kept, made) = by_answer((p.1)(first, item));
+                let (kept, emitted) = by_answer((p.1)(first, item));
                 p.0 = kept;
-                made
+                emitted
             }
         }
     }
 
     #[inline(always)]
-    fn on_stop(&self, p: &mut (Option<X>, F), stop: Stop<E>) -> Made<X, Stop<E>, E> {
+    fn on_stop(&self, p: &mut (Option<X>, F), stop: Stop<E>) -> Emitted<X, Stop<E>, E> {
         let_go(p.0.take(), stop)
     }
 
@@ -102,9 +102,9 @@ impl<X, E, F: FnMut(X, X) -> Result<Result<X, (X, X)>, E>> Stage<(Option<X>, F),
     }
 }
 
-// What is buffered of the two items then, and what is made.
+// What is buffered of the two items then, and what is emitted.
 #[inline(always)]
-fn by_answer<X, E>(answer: Result<Result<X, (X, X)>, E>) -> (Option<X>, Made<X, Stop<E>, E>) {
+fn by_answer<X, E>(answer: Result<Result<X, (X, X)>, E>) -> (Option<X>, Emitted<X, Stop<E>, E>) {
     match answer {
         Ok(Ok(both)) => (Some(both), None),
         Ok(Err((first, second))) => (Some(second), one(Ok(Some(first)))),

@@ -2,7 +2,7 @@
 
 use crate::base::Turn;
 use crate::fallible_itertools_adapters::staging::{
-    AnswerAndDue, Made, Stage, Stop, drawn_until, drive_stage, let_go, one, put_due, stopped,
+    AnswerAndDue, Emitted, Stage, Stop, drawn_until, drive_stage, let_go, one, put_due, stopped,
     with_held,
 };
 use fallible_iterator::FallibleIterator;
@@ -84,8 +84,8 @@ impl<X: PartialEq, E> Stage<(Option<X>, ()), X, E> for DedupStage {
     type Due = Stop<E>;
 
     #[inline(always)]
-    fn on_item(&self, p: &mut (Option<X>, ()), item: X) -> Made<X, Stop<E>, E> {
-        let (kept, made) = match p.0.take() {
+    fn on_item(&self, p: &mut (Option<X>, ()), item: X) -> Emitted<X, Stop<E>, E> {
+        let (kept, emitted) = match p.0.take() {
             None => (item, None),
             Some(first) => {
                 if first == item {
@@ -96,11 +96,11 @@ impl<X: PartialEq, E> Stage<(Option<X>, ()), X, E> for DedupStage {
             }
         };
         p.0 = Some(kept);
-        made
+        emitted
     }
 
     #[inline(always)]
-    fn on_stop(&self, p: &mut (Option<X>, ()), stop: Stop<E>) -> Made<X, Stop<E>, E> {
+    fn on_stop(&self, p: &mut (Option<X>, ()), stop: Stop<E>) -> Emitted<X, Stop<E>, E> {
         let_go(p.0.take(), stop)
     }
 

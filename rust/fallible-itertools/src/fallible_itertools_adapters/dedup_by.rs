@@ -2,7 +2,7 @@
 
 use crate::base::Turn;
 use crate::fallible_itertools_adapters::staging::{
-    AnswerAndDue, Made, Stage, Stop, drive_stage, let_go, next_until, one, stopped, with_held,
+    AnswerAndDue, Emitted, Stage, Stop, drive_stage, let_go, next_until, one, stopped, with_held,
 };
 use fallible_iterator::FallibleIterator;
 
@@ -69,7 +69,7 @@ impl<X, E, F: FnMut(&X, &X) -> Result<bool, E>> Stage<(Option<X>, F), X, E> for 
     type Due = Stop<E>;
 
     #[inline(always)]
-    fn on_item(&self, p: &mut (Option<X>, F), item: X) -> Made<X, Stop<E>, E> {
+    fn on_item(&self, p: &mut (Option<X>, F), item: X) -> Emitted<X, Stop<E>, E> {
         match p.0.take() {
             None => {
                 p.0 = Some(item);
@@ -77,15 +77,15 @@ impl<X, E, F: FnMut(&X, &X) -> Result<bool, E>> Stage<(Option<X>, F), X, E> for 
             }
             Some(first) => {
                 let same = (p.1)(&first, &item);
-                let (kept, made) = by_same(first, item, same);
+                let (kept, emitted) = by_same(first, item, same);
                 p.0 = kept;
-                made
+                emitted
             }
         }
     }
 
     #[inline(always)]
-    fn on_stop(&self, p: &mut (Option<X>, F), stop: Stop<E>) -> Made<X, Stop<E>, E> {
+    fn on_stop(&self, p: &mut (Option<X>, F), stop: Stop<E>) -> Emitted<X, Stop<E>, E> {
         let_go(p.0.take(), stop)
     }
 
@@ -95,9 +95,9 @@ impl<X, E, F: FnMut(&X, &X) -> Result<bool, E>> Stage<(Option<X>, F), X, E> for 
     }
 }
 
-// What is buffered of the two items then, and what is made.
+// What is buffered of the two items then, and what is emitted.
 #[inline(always)]
-fn by_same<X, E>(first: X, item: X, same: Result<bool, E>) -> (Option<X>, Made<X, Stop<E>, E>) {
+fn by_same<X, E>(first: X, item: X, same: Result<bool, E>) -> (Option<X>, Emitted<X, Stop<E>, E>) {
     match same {
         Ok(true) => (Some(first), None),
         Ok(false) => (Some(item), one(Ok(Some(first)))),

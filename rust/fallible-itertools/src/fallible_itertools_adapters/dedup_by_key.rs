@@ -2,7 +2,7 @@
 
 use crate::base::Turn;
 use crate::fallible_itertools_adapters::staging::{
-    AnswerAndDue, Made, Stage, Stop, drive_stage, let_go, next_until, one, stopped, with_held,
+    AnswerAndDue, Emitted, Stage, Stop, drive_stage, let_go, next_until, one, stopped, with_held,
 };
 use fallible_iterator::FallibleIterator;
 
@@ -73,15 +73,15 @@ impl<X, E, K: PartialEq, F: FnMut(&X) -> Result<K, E>> Stage<(Option<(K, X)>, F)
     type Due = Stop<E>;
 
     #[inline(always)]
-    fn on_item(&self, p: &mut (Option<(K, X)>, F), item: X) -> Made<X, Stop<E>, E> {
+    fn on_item(&self, p: &mut (Option<(K, X)>, F), item: X) -> Emitted<X, Stop<E>, E> {
         let key = (p.1)(&item);
-        let (kept, made) = by_key(p.0.take(), item, key);
+        let (kept, emitted) = by_key(p.0.take(), item, key);
         p.0 = kept;
-        made
+        emitted
     }
 
     #[inline(always)]
-    fn on_stop(&self, p: &mut (Option<(K, X)>, F), stop: Stop<E>) -> Made<X, Stop<E>, E> {
+    fn on_stop(&self, p: &mut (Option<(K, X)>, F), stop: Stop<E>) -> Emitted<X, Stop<E>, E> {
         let_go(item_of(p.0.take()), stop)
     }
 
@@ -100,13 +100,13 @@ fn item_of<X, K>(held: Option<(K, X)>) -> Option<X> {
     }
 }
 
-// What is buffered then, and what is made, by the key of the next item.
+// What is buffered then, and what is emitted, by the key of the next item.
 #[inline(always)]
 fn by_key<X, E, K: PartialEq>(
     held: Option<(K, X)>,
     item: X,
     key: Result<K, E>,
-) -> (Option<(K, X)>, Made<X, Stop<E>, E>) {
+) -> (Option<(K, X)>, Emitted<X, Stop<E>, E>) {
     match (key, held) {
         (Err(e), held) => (None, let_go(item_of(held), Some(e))),
         (Ok(key), None) => (Some((key, item)), None),

@@ -2,7 +2,7 @@
 
 use crate::base::Turn;
 use crate::fallible_itertools_adapters::staging::{
-    AnswerAndDue, Made, Stage, Stop, drive_stage, let_go, next_until, one, stopped, with_held,
+    AnswerAndDue, Emitted, Stage, Stop, drive_stage, let_go, next_until, one, stopped, with_held,
 };
 use fallible_iterator::FallibleIterator;
 
@@ -71,7 +71,7 @@ impl<X, E, F: FnMut(&X, &X) -> Result<bool, E>> Stage<(Option<(usize, X)>, F), X
     type Due = Stop<E>;
 
     #[inline(always)]
-    fn on_item(&self, p: &mut (Option<(usize, X)>, F), item: X) -> Made<(usize, X), Stop<E>, E> {
+    fn on_item(&self, p: &mut (Option<(usize, X)>, F), item: X) -> Emitted<(usize, X), Stop<E>, E> {
         match p.0.take() {
             None => {
                 p.0 = Some((1, item));
@@ -79,9 +79,9 @@ impl<X, E, F: FnMut(&X, &X) -> Result<bool, E>> Stage<(Option<(usize, X)>, F), X
             }
             Some((count, first)) => {
                 let same = (p.1)(&first, &item);
-                let (kept, made) = by_same(count, first, item, same);
+                let (kept, emitted) = by_same(count, first, item, same);
                 p.0 = kept;
-                made
+                emitted
             }
         }
     }
@@ -91,7 +91,7 @@ impl<X, E, F: FnMut(&X, &X) -> Result<bool, E>> Stage<(Option<(usize, X)>, F), X
         &self,
         p: &mut (Option<(usize, X)>, F),
         stop: Stop<E>,
-    ) -> Made<(usize, X), Stop<E>, E> {
+    ) -> Emitted<(usize, X), Stop<E>, E> {
         let_go(p.0.take(), stop)
     }
 
@@ -101,14 +101,14 @@ impl<X, E, F: FnMut(&X, &X) -> Result<bool, E>> Stage<(Option<(usize, X)>, F), X
     }
 }
 
-// What is buffered of the two items then, and what is made.
+// What is buffered of the two items then, and what is emitted.
 #[inline(always)]
 fn by_same<X, E>(
     count: usize,
     first: X,
     item: X,
     same: Result<bool, E>,
-) -> (Option<(usize, X)>, Made<(usize, X), Stop<E>, E>) {
+) -> (Option<(usize, X)>, Emitted<(usize, X), Stop<E>, E>) {
     match same {
         Ok(true) => (Some((count.saturating_add(1), first)), None),
         Ok(false) => (Some((1, item)), one(Ok(Some((count, first))))),

@@ -2,7 +2,7 @@
 
 use crate::base::Turn;
 use crate::fallible_itertools_adapters::staging::{
-    AnswerAndDue, Made, Stage, Stop, drawn_until, drive_stage, let_go, one, put_due, stopped,
+    AnswerAndDue, Emitted, Stage, Stop, drawn_until, drive_stage, let_go, one, put_due, stopped,
     with_held,
 };
 use fallible_iterator::FallibleIterator;
@@ -84,8 +84,12 @@ impl<X: PartialEq, E> Stage<(Option<(usize, X)>, ()), X, E> for EqualCount {
     type Due = Stop<E>;
 
     #[inline(always)]
-    fn on_item(&self, p: &mut (Option<(usize, X)>, ()), item: X) -> Made<(usize, X), Stop<E>, E> {
-        let (kept, made) = match p.0.take() {
+    fn on_item(
+        &self,
+        p: &mut (Option<(usize, X)>, ()),
+        item: X,
+    ) -> Emitted<(usize, X), Stop<E>, E> {
+        let (kept, emitted) = match p.0.take() {
             None => ((1, item), None),
             Some((count, first)) => {
                 if first == item {
@@ -96,7 +100,7 @@ impl<X: PartialEq, E> Stage<(Option<(usize, X)>, ()), X, E> for EqualCount {
             }
         };
         p.0 = Some(kept);
-        made
+        emitted
     }
 
     #[inline(always)]
@@ -104,7 +108,7 @@ impl<X: PartialEq, E> Stage<(Option<(usize, X)>, ()), X, E> for EqualCount {
         &self,
         p: &mut (Option<(usize, X)>, ()),
         stop: Stop<E>,
-    ) -> Made<(usize, X), Stop<E>, E> {
+    ) -> Emitted<(usize, X), Stop<E>, E> {
         let_go(p.0.take(), stop)
     }
 

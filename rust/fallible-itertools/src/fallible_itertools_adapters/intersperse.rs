@@ -2,7 +2,7 @@
 
 use crate::base::Turn;
 use crate::fallible_itertools_adapters::staging::{
-    AnswerAndDue, Made, Stage, Stop, drive_stage, next_stage, one, one_then, stopped,
+    AnswerAndDue, Emitted, Stage, Stop, drive_stage, next_stage, one, one_then, stopped,
 };
 use fallible_iterator::FallibleIterator;
 
@@ -70,7 +70,7 @@ impl<X: Clone, E> Stage<(bool, X), X, E> for SeparatorClone {
     type Due = X;
 
     #[inline(always)]
-    fn on_item(&self, p: &mut (bool, X), item: X) -> Made<X, X, E> {
+    fn on_item(&self, p: &mut (bool, X), item: X) -> Emitted<X, X, E> {
         if p.0 {
             separated(Ok(p.1.clone()), item)
         } else {
@@ -80,7 +80,7 @@ impl<X: Clone, E> Stage<(bool, X), X, E> for SeparatorClone {
     }
 
     #[inline(always)]
-    fn on_stop(&self, _p: &mut (bool, X), stop: Stop<E>) -> Made<X, X, E> {
+    fn on_stop(&self, _p: &mut (bool, X), stop: Stop<E>) -> Emitted<X, X, E> {
         one(stopped(stop))
     }
 
@@ -92,7 +92,7 @@ impl<X: Clone, E> Stage<(bool, X), X, E> for SeparatorClone {
 
 /// The separator, or what making it failed with, and then the item.
 #[inline(always)]
-pub(crate) fn separated<X, E>(separator: Result<X, E>, item: X) -> Made<X, X, E> {
+pub(crate) fn separated<X, E>(separator: Result<X, E>, item: X) -> Emitted<X, X, E> {
     match separator {
         Ok(separator) => one_then(Ok(Some(separator)), item),
         Err(e) => one_then(Err(e), item),

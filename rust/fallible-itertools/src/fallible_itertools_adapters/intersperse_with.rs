@@ -3,7 +3,7 @@
 use crate::base::Turn;
 use crate::fallible_itertools_adapters::intersperse::{hint_parting, separated};
 use crate::fallible_itertools_adapters::staging::{
-    AnswerAndDue, Made, Stage, Stop, drive_stage, next_stage, one, stopped,
+    AnswerAndDue, Emitted, Stage, Stop, drive_stage, next_stage, one, stopped,
 };
 use fallible_iterator::FallibleIterator;
 
@@ -67,7 +67,7 @@ impl<X, E, F: FnMut() -> Result<X, E>> Stage<(bool, F), X, E> for SeparatorCall 
     type Due = X;
 
     #[inline(always)]
-    fn on_item(&self, p: &mut (bool, F), item: X) -> Made<X, X, E> {
+    fn on_item(&self, p: &mut (bool, F), item: X) -> Emitted<X, X, E> {
         if p.0 {
             separated((p.1)(), item)
         } else {
@@ -77,7 +77,7 @@ impl<X, E, F: FnMut() -> Result<X, E>> Stage<(bool, F), X, E> for SeparatorCall 
     }
 
     #[inline(always)]
-    fn on_stop(&self, _p: &mut (bool, F), stop: Stop<E>) -> Made<X, X, E> {
+    fn on_stop(&self, _p: &mut (bool, F), stop: Stop<E>) -> Emitted<X, X, E> {
         one(stopped(stop))
     }
 

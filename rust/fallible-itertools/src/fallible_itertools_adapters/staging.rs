@@ -1,4 +1,4 @@
-//! Adapters of one source by what each of its answers makes: nothing, or one answer and what is due after it.
+//! Adapters of one source by what is emitted at each of its answers: nothing, or one answer and what is due after it.
 
 use crate::base::Beside;
 use crate::base::Turn;
@@ -13,8 +13,8 @@ pub type Stop<E> = Option<E>;
 /// An answer, and what is due after it.
 pub type AnswerAndDue<B, D, E> = (Result<Option<B>, E>, Option<D>);
 
-/// What an answer of the source makes: nothing, or an answer, and what is due after it.
-pub type Made<B, D, E> = Option<AnswerAndDue<B, D, E>>;
+/// What is emitted at an answer of the source: nothing, or an answer, and what is due after it.
+pub type Emitted<B, D, E> = Option<AnswerAndDue<B, D, E>>;
 
 /// One answer.
 ///
@@ -23,11 +23,11 @@ pub type Made<B, D, E> = Option<AnswerAndDue<B, D, E>>;
 /// As it is proved, in [these words](crate::words):
 ///
 /// ```text
-/// ensures { result ≡ one_made answer }
+/// ensures { result ≡ one_emitted answer }
 /// ```
 /// </details>
 #[inline(always)]
-pub fn one<B, D, E>(answer: Result<Option<B>, E>) -> Made<B, D, E> {
+pub fn one<B, D, E>(answer: Result<Option<B>, E>) -> Emitted<B, D, E> {
     Some((answer, None))
 }
 
@@ -38,11 +38,11 @@ pub fn one<B, D, E>(answer: Result<Option<B>, E>) -> Made<B, D, E> {
 /// As it is proved, in [these words](crate::words):
 ///
 /// ```text
-/// ensures { result ≡ made_before answer due }
+/// ensures { result ≡ emitted_then answer due }
 /// ```
 /// </details>
 #[inline(always)]
-pub fn one_then<B, D, E>(answer: Result<Option<B>, E>, due: D) -> Made<B, D, E> {
+pub fn one_then<B, D, E>(answer: Result<Option<B>, E>, due: D) -> Emitted<B, D, E> {
     Some((answer, Some(due)))
 }
 
@@ -64,7 +64,7 @@ pub fn stopped<B, E>(stop: Stop<E>) -> Result<Option<B>, E> {
     }
 }
 
-/// What a stop makes where this is buffered: the buffered item, after which the stop is due; or the stop, where none is buffered.
+/// What is emitted at a stop where this is buffered: the buffered item, after which the stop is due; or the stop, where none is buffered.
 ///
 /// <details><summary>Contract</summary>
 ///
@@ -75,7 +75,7 @@ pub fn stopped<B, E>(stop: Stop<E>) -> Result<Option<B>, E> {
 /// ```
 /// </details>
 #[inline(always)]
-pub fn let_go<B, E>(held: Option<B>, stop: Stop<E>) -> Made<B, Stop<E>, E> {
+pub fn let_go<B, E>(held: Option<B>, stop: Stop<E>) -> Emitted<B, Stop<E>, E> {
     match held {
         Some(y) => one_then(Ok(Some(y)), stop),
         None => one(stopped(stop)),
@@ -101,7 +101,7 @@ pub fn with_held(hint: (usize, Option<usize>), is_held: bool) -> (usize, Option<
     (low, high)
 }
 
-/// What an adapter makes of each answer of its source. It holds a `P`; the source yields `X`.
+/// What an adapter emits at each answer of its source. It holds a `P`; the source yields `X`.
 pub trait Stage<P, X, E> {
     /// What the adapter yields.
     type Kept;
@@ -120,7 +120,7 @@ pub trait Stage<P, X, E> {
     /// ensures { items self.now p.old item result p.new }
     /// ```
     /// </details>
-    fn on_item(&self, p: &mut P, item: X) -> Made<Self::Kept, Self::Due, E>;
+    fn on_item(&self, p: &mut P, item: X) -> Emitted<Self::Kept, Self::Due, E>;
 
     /// What becomes of a stop of the source.
     ///
@@ -132,7 +132,7 @@ pub trait Stage<P, X, E> {
     /// ensures { stops self.now p.old stop result p.new }
     /// ```
     /// </details>
-    fn on_stop(&self, p: &mut P, stop: Stop<E>) -> Made<Self::Kept, Self::Due, E>;
+    fn on_stop(&self, p: &mut P, stop: Stop<E>) -> Emitted<Self::Kept, Self::Due, E>;
 
     /// The answer that was due, and what is due after it.
     ///
@@ -159,11 +159,11 @@ pub trait Stage<P, X, E> {
 /// ```
 /// </details>
 #[inline(always)]
-pub fn made_of<P, X, E, G: Stage<P, X, E>>(
+pub fn emitted_of<P, X, E, G: Stage<P, X, E>>(
     answer: Result<Option<X>, E>,
     p: &mut P,
     stage: &G,
-) -> Made<G::Kept, G::Due, E> {
+) -> Emitted<G::Kept, G::Due, E> {
     match answer {
         Ok(Some(x)) => stage.on_item(p, x),
         Ok(None) => stage.on_stop(p, None),
@@ -228,15 +228,15 @@ fn tell_due<P, X, E, G: Stage<P, X, E>, C, R, K: Turn<C, G::Kept, R>>(
     }
 }
 
-// The caller's turn on what an answer of the source makes.
+// The caller's turn on what is emitted at an answer of the source.
 #[inline(always)]
-fn tell_made<P, X, E, G: Stage<P, X, E>, C, R, K: Turn<C, G::Kept, R>>(
-    made: Made<G::Kept, G::Due, E>,
+fn tell_emitted<P, X, E, G: Stage<P, X, E>, C, R, K: Turn<C, G::Kept, R>>(
+    emitted: Emitted<G::Kept, G::Due, E>,
     adapter: &G,
     state: &mut C,
     turn: &K,
 ) -> ControlFlow<AnswerAndDue<R, G::Due, E>, ()> {
-    match made {
+    match emitted {
         None => ControlFlow::Continue(()),
         Some((first, due)) => match tell(first, state, turn) {
             ControlFlow::Continue(()) => tell_due(due, adapter, state, turn),
@@ -245,7 +245,7 @@ fn tell_made<P, X, E, G: Stage<P, X, E>, C, R, K: Turn<C, G::Kept, R>>(
     }
 }
 
-/// One answer of an adapter that makes something of each answer of its source: what is due, without a draw, or what one draw makes.
+/// One answer of an adapter that emits something at each answer of its source: what is due, without a draw, or what is emitted at one draw.
 ///
 /// <details><summary>Contract</summary>
 ///
@@ -273,7 +273,7 @@ pub fn next_stage<I: FallibleIterator, P, G: Stage<P, I::Item, I::Error>>(
             put_due(&mut stage.1, left);
             answer
         }
-        None => match made_of(it.next(), &mut stage.0, adapter) {
+        None => match emitted_of(it.next(), &mut stage.0, adapter) {
             Some((answer, next)) => {
                 put_due(&mut stage.1, next);
                 answer
@@ -283,7 +283,7 @@ pub fn next_stage<I: FallibleIterator, P, G: Stage<P, I::Item, I::Error>>(
     }
 }
 
-/// One answer of an adapter of which one draw may make nothing: what is due, without a draw, or what draws make, of which the last makes something.
+/// One answer of an adapter that may emit nothing at a draw: what is due, without a draw, or what is emitted at draws, at the last of which something is.
 ///
 /// <details><summary>Contract</summary>
 ///
@@ -318,7 +318,7 @@ pub fn next_until<I: FallibleIterator, P, G: Stage<P, I::Item, I::Error>>(
     }
 }
 
-/// Draws until a draw makes something, where nothing is due: the answer, and what is due after it.
+/// Draws until something is emitted at a draw, where nothing is due: the answer, and what is due after it.
 ///
 /// <details><summary>Contract</summary>
 ///
@@ -341,13 +341,13 @@ pub fn drawn_until<I: FallibleIterator, P, G: Stage<P, I::Item, I::Error>>(
     adapter: &G,
 ) -> AnswerAndDue<G::Kept, G::Due, I::Error> {
     loop {
-        match made_of(it.next(), held, adapter) {
-            Some(made) => return made,
+        match emitted_of(it.next(), held, adapter) {
+            Some(emitted) => return emitted,
             None => {}
         }
         // two draws a turn: a compiler would search a loop of one for its end many items at a time, which doesn't pay for short runs
-        match made_of(it.next(), held, adapter) {
-            Some(made) => return made,
+        match emitted_of(it.next(), held, adapter) {
+            Some(emitted) => return emitted,
             None => {}
         }
     }
@@ -368,7 +368,7 @@ impl<'a, 'b, P, X, E, C, R, G: Stage<P, X, E>, K: Turn<C, G::Kept, R>>
         state: &mut Beside<'b, C, P>,
         item: X,
     ) -> ControlFlow<AnswerAndDue<R, G::Due, E>, ()> {
-        tell_made(
+        tell_emitted(
             self.adapter.on_item(state.p, item),
             self.adapter,
             state.c,
@@ -377,7 +377,7 @@ impl<'a, 'b, P, X, E, C, R, G: Stage<P, X, E>, K: Turn<C, G::Kept, R>>
     }
 }
 
-/// The fold of such an adapter: what is due, without a draw, and then the source's fold, whose turn is the caller's on what each item makes, and then what its stop makes.
+/// The fold of such an adapter: what is due, without a draw, and then the source's fold, whose turn is the caller's on what is emitted at each item, and then what is emitted at its stop.
 ///
 /// <details><summary>Contract</summary>
 ///
@@ -442,8 +442,8 @@ fn drive_undue<
 ) -> AnswerAndDue<R, G::Due, I::Error> {
     match drive_items(it, held, adapter, state, turn) {
         Ok(Some(told)) => told,
-        Ok(None) => at_stop(None, held, adapter, state, turn),
-        Err(e) => at_stop(Some(e), held, adapter, state, turn),
+        Ok(None) => tell_stop(None, held, adapter, state, turn),
+        Err(e) => tell_stop(Some(e), held, adapter, state, turn),
     }
 }
 
@@ -469,14 +469,14 @@ fn drive_items<
 
 // What the fold returns at a stop of its source, and what is due then.
 #[inline(always)]
-fn at_stop<P, X, E, G: Stage<P, X, E>, C, R, K: Turn<C, G::Kept, R>>(
+fn tell_stop<P, X, E, G: Stage<P, X, E>, C, R, K: Turn<C, G::Kept, R>>(
     stop: Stop<E>,
     held: &mut P,
     adapter: &G,
     state: &mut C,
     turn: &K,
 ) -> AnswerAndDue<R, G::Due, E> {
-    match tell_made(adapter.on_stop(held, stop), adapter, state, turn) {
+    match tell_emitted(adapter.on_stop(held, stop), adapter, state, turn) {
         ControlFlow::Break(told) => told,
         ControlFlow::Continue(()) => unreachable!(),
     }

@@ -2,7 +2,7 @@
 
 use crate::base::Turn;
 use crate::fallible_itertools_adapters::staging::{
-    AnswerAndDue, Made, Stage, Stop, drive_stage, next_stage, one, one_then, stopped,
+    AnswerAndDue, Emitted, Stage, Stop, drive_stage, next_stage, one, one_then, stopped,
 };
 use fallible_iterator::FallibleIterator;
 
@@ -71,7 +71,7 @@ impl<X, E, P: FnMut(&X) -> Result<bool, E>> Stage<((), P), X, E> for InclusiveSt
     type Due = ();
 
     #[inline(always)]
-    fn on_item(&self, p: &mut ((), P), item: X) -> Made<X, (), E> {
+    fn on_item(&self, p: &mut ((), P), item: X) -> Emitted<X, (), E> {
         match (p.1)(&item) {
             Ok(true) => one(Ok(Some(item))),
             Ok(false) => one_then(Ok(Some(item)), ()),
@@ -80,7 +80,7 @@ impl<X, E, P: FnMut(&X) -> Result<bool, E>> Stage<((), P), X, E> for InclusiveSt
     }
 
     #[inline(always)]
-    fn on_stop(&self, _p: &mut ((), P), stop: Stop<E>) -> Made<X, (), E> {
+    fn on_stop(&self, _p: &mut ((), P), stop: Stop<E>) -> Emitted<X, (), E> {
         one(stopped(stop))
     }
 

@@ -3,7 +3,7 @@
 use crate::base::Turn;
 use crate::base::sum;
 use crate::fallible_itertools_adapters::staging::{
-    AnswerAndDue, Made, Stage, Stop, drive_stage, let_go, next_stage, one, stopped,
+    AnswerAndDue, Emitted, Stage, Stop, drive_stage, let_go, next_stage, one, stopped,
 };
 use core::mem::replace;
 use fallible_iterator::FallibleIterator;
@@ -98,7 +98,11 @@ impl<X, E> Stage<(Option<(bool, X)>, ()), X, E> for PositionStage {
     type Due = Stop<E>;
 
     #[inline(always)]
-    fn on_item(&self, p: &mut (Option<(bool, X)>, ()), item: X) -> Made<(Position, X), Stop<E>, E> {
+    fn on_item(
+        &self,
+        p: &mut (Option<(bool, X)>, ()),
+        item: X,
+    ) -> Emitted<(Position, X), Stop<E>, E> {
         let is_later = p.0.is_some();
         match replace(&mut p.0, Some((is_later, item))) {
             Some((was_later, before)) => one(Ok(Some((first_or_middle(was_later), before)))),
@@ -111,7 +115,7 @@ impl<X, E> Stage<(Option<(bool, X)>, ()), X, E> for PositionStage {
         &self,
         p: &mut (Option<(bool, X)>, ()),
         stop: Stop<E>,
-    ) -> Made<(Position, X), Stop<E>, E> {
+    ) -> Emitted<(Position, X), Stop<E>, E> {
         let_go(placed_last(p.0.take()), stop)
     }
 

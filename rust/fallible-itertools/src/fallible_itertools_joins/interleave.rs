@@ -2,8 +2,7 @@
 
 use crate::base::Turn;
 use crate::base::sum;
-use crate::fallible_itertools_joins::sides::{DrawsBoth, turned};
-use core::ops::ControlFlow;
+use crate::fallible_itertools_joins::sides::{DrawsBoth, drive_both};
 use fallible_iterator::{FallibleIterator, Fuse};
 
 /// What two sources yield in turn, each fused, and the rest of the one that yields more. A failure takes its side's turn, as an item does.
@@ -36,22 +35,7 @@ impl<T: FallibleIterator, U: FallibleIterator<Item = T::Item, Error = T::Error>>
         state: &mut C,
         turn: &K,
     ) -> Result<Option<R>, T::Error> {
-        loop {
-            let (answer, alone) = self.next_of_both();
-            match turned(answer, state, turn) {
-                ControlFlow::Continue(()) => {}
-                ControlFlow::Break(answer) => return answer,
-            }
-            if alone {
-                break;
-            }
-        }
-        loop {
-            match turned(self.next(), state, turn) {
-                ControlFlow::Continue(()) => {}
-                ControlFlow::Break(answer) => return answer,
-            }
-        }
+        drive_both(self, state, turn)
     }
 }
 
@@ -77,6 +61,10 @@ impl<T: FallibleIterator, U: FallibleIterator<Item = T::Item, Error = T::Error>>
 impl<T: FallibleIterator, U: FallibleIterator<Item = T::Item, Error = T::Error>> DrawsBoth
     for Interleave<T, U>
 {
+    type Item = T::Item;
+
+    type Error = T::Error;
+
     #[inline(always)]
     fn next_of_both(&mut self) -> (Result<Option<T::Item>, T::Error>, bool) {
         if self.right_next {

@@ -2,18 +2,17 @@
 
 use crate::base::Turn;
 use crate::base::sum;
-use crate::fallible_itertools_joins::sides::{DrawsBoth, Holding, turned};
+use crate::fallible_itertools_joins::sides::{DrawsBoth, JoinSide, drive_both};
 use crate::fallible_itertools_joins::zip_longest::{EitherOrBoth, greater};
 use core::cmp::Ordering;
-use core::ops::ControlFlow;
 use fallible_iterator::{FallibleIterator, Fuse};
 
 /// The items of two sources, each fused, in order. A closure compares an item of each: `Less` yields the left's alone, `Greater` the right's alone, and `Equal` both. A failure of a side is yielded, and loses nothing that is buffered. If the closure fails, its failure is yielded, and the two items are lost.
 #[derive(Clone, Debug)]
 #[must_use = "an iterator draws nothing until it is asked"]
 pub struct MergeJoinBy<T: FallibleIterator, U: FallibleIterator<Error = T::Error>, F> {
-    pub(crate) left: Holding<Fuse<T>, T::Item>,
-    pub(crate) right: Holding<Fuse<U>, U::Item>,
+    pub(crate) left: JoinSide<Fuse<T>, T::Item>,
+    pub(crate) right: JoinSide<Fuse<U>, U::Item>,
     pub(crate) f: F,
 }
 
@@ -22,8 +21,8 @@ impl<T: FallibleIterator, U: FallibleIterator<Error = T::Error>, F> MergeJoinBy<
     #[inline(always)]
     pub(crate) fn new(left: Fuse<T>, right: Fuse<U>, f: F) -> MergeJoinBy<T, U, F> {
         MergeJoinBy {
-            left: Holding::new(left),
-            right: Holding::new(right),
+            left: JoinSide::new(left),
+            right: JoinSide::new(right),
             f,
         }
     }
@@ -42,22 +41,7 @@ impl<
         state: &mut C,
         turn: &K,
     ) -> Result<Option<R>, T::Error> {
-        loop {
-            let (answer, alone) = self.next_of_both();
-            match turned(answer, state, turn) {
-                ControlFlow::Continue(()) => {}
-                ControlFlow::Break(answer) => return answer,
-            }
-            if alone {
-                break;
-            }
-        }
-        loop {
-            match turned(self.next(), state, turn) {
-                ControlFlow::Continue(()) => {}
-                ControlFlow::Break(answer) => return answer,
-            }
-        }
+        drive_both(self, state, turn)
     }
 }
 
@@ -91,6 +75,10 @@ impl<
     F: FnMut(&T::Item, &U::Item) -> Result<Ordering, T::Error>,
 > DrawsBoth for MergeJoinBy<T, U, F>
 {
+    type Item = EitherOrBoth<T::Item, U::Item>;
+
+    type Error = T::Error;
+
     #[inline(always)]
     fn next_of_both(
         &mut self,

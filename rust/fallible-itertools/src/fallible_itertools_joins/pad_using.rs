@@ -2,9 +2,8 @@
 
 use crate::base::Turn;
 use crate::base::{Outcome, Pass, passed};
-use crate::fallible_itertools_joins::sides::{DrawsBoth, turned};
+use crate::fallible_itertools_joins::sides::{DrawsBoth, drive_both};
 use crate::fallible_itertools_joins::zip_longest::{EitherOrBoth, greater};
-use core::ops::ControlFlow;
 use fallible_iterator::{FallibleIterator, Fuse};
 
 /// The items of the source, and then what the closure returns for each index below n that no item has. The source is fused. If the closure fails, its failure stands in that item's place.
@@ -40,22 +39,7 @@ impl<I: FallibleIterator, F: FnMut(usize) -> Result<I::Item, I::Error>> PadUsing
         state: &mut C,
         turn: &K,
     ) -> Result<Option<R>, I::Error> {
-        loop {
-            let (answer, alone) = self.next_of_both();
-            match turned(answer, state, turn) {
-                ControlFlow::Continue(()) => {}
-                ControlFlow::Break(answer) => return answer,
-            }
-            if alone {
-                break;
-            }
-        }
-        loop {
-            match turned(self.next(), state, turn) {
-                ControlFlow::Continue(()) => {}
-                ControlFlow::Break(answer) => return answer,
-            }
-        }
+        drive_both(self, state, turn)
     }
 }
 
@@ -82,6 +66,10 @@ impl<I: FallibleIterator, F: FnMut(usize) -> Result<I::Item, I::Error>> Fallible
 impl<I: FallibleIterator, F: FnMut(usize) -> Result<I::Item, I::Error>> DrawsBoth
     for PadUsing<I, F>
 {
+    type Item = I::Item;
+
+    type Error = I::Error;
+
     #[inline(always)]
     fn next_of_both(&mut self) -> (Result<Option<I::Item>, I::Error>, bool) {
         let beside = beside_index(&mut self.it, &mut self.next, self.end);

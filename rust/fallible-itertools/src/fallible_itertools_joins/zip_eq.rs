@@ -1,14 +1,14 @@
 //! The adapter that pairs the items of two sources, and fails where one of them has more.
 
 use crate::base::smaller;
-use crate::fallible_itertools_joins::sides::Holding;
+use crate::fallible_itertools_joins::sides::JoinSide;
 use fallible_iterator::{FallibleIterator, Fuse};
 
 /// The items of two sources, each fused, as pairs. Where one side returned `Ok(None)` and the other has an item, that item is lost, and what a closure returns is the failure. If the left fails, the right isn't drawn. If the right fails, the left's item is buffered for the next call.
 #[derive(Clone, Debug)]
 #[must_use = "an iterator draws nothing until it is asked"]
 pub struct ZipEq<T: FallibleIterator, U, F> {
-    pub(crate) left: Holding<Fuse<T>, T::Item>,
+    pub(crate) left: JoinSide<Fuse<T>, T::Item>,
     pub(crate) right: Fuse<U>,
     pub(crate) f: F,
 }
@@ -18,7 +18,7 @@ impl<T: FallibleIterator, U: FallibleIterator<Error = T::Error>, F> ZipEq<T, U, 
     #[inline(always)]
     pub(crate) fn new(left: Fuse<T>, right: Fuse<U>, f: F) -> ZipEq<T, U, F> {
         ZipEq {
-            left: Holding::new(left),
+            left: JoinSide::new(left),
             right,
             f,
         }
