@@ -2,8 +2,7 @@
 use Rattle.std.proofs.Common.{Bool, true, false, ◌≡◌, ℕ, suc, ◌+◌, ◌≤◌, List, [], ◌∷◌, ◌++◌, length, Option, Some, None, Result, Ok, Err, if◌then◌else◌, not, arith}
 use Rattle.std.specs.Prelude.{filter}
 use Rattle.std.specs.declared.convert.Infallible.{Infallible}
-use Rattle.fallible_core.specs.OneToOne.Enumerate.{numbered}
-use Rattle.fallible_contract.specs.Lists.{items}
+use Rattle.fallible_iterator.specs.Lists.{items, numbered}
 use Rattle.fallible_json.specs.Bytes.{is_open}
 use Rattle.fallible_json.specs.Grammar.{State, after_token, begin, is_whole}
 use Rattle.fallible_json.specs.Lexing.{Begun, Lexeme, Placed, begun_at, closed, lexed, lexed_after, lexed_from, where_goes}

@@ -1,8 +1,7 @@
 -- Texts of which the first bytes of the first are told apart.
 use Rattle.std.proofs.Common.{Bool, true, false, ◌≡◌, ◌⊎◌, inl, inr, ℕ, ◌<◌, List, [], ◌∷◌, ◌++◌, length, Option, Some, None, Ok, Err, if◌then◌else◌, arith, refl, sym, ap, subst, ◌∙◌, append_assoc, append-nil}
 use Rattle.std.specs.Prelude.{◌≢◌}
-use Rattle.fallible_core.specs.OneToOne.Enumerate.{numbered}
-use Rattle.fallible_contract.specs.Lists.{items}
+use Rattle.fallible_iterator.specs.Lists.{items, numbered}
 use Rattle.fallible_json.specs.Grammar.{State, after_token, begin, first_in, is_whole, next_in, step_of, taken, taken_if}
 use Rattle.fallible_json.specs.Lexing.{lexed}
 use Rattle.fallible_json.specs.Minifying.{bytes_of}

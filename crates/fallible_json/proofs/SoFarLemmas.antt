@@ -11,8 +11,7 @@ use Rattle.std.specs.Io.KnownBytes.{Appends, Consumes, IsAtEnd}
 use Rattle.std.specs.Option.{is_some}
 use Rattle.std.specs.Str.Lossy.{utf8_error_len, utf8_valid_len}
 use Rattle.program_io.specs.Reading.{ReadsAll}
-use Rattle.fallible_core.specs.OneToOne.Enumerate.{numbered}
-use Rattle.fallible_contract.specs.Lists.{items}
+use Rattle.fallible_iterator.specs.Lists.{items, numbered}
 use Rattle.fallible_json.specs.Grammar.{State, begin}
 use Rattle.fallible_json.specs.Json.{not_text_at}
 use Rattle.fallible_json.specs.Lexing.{lexed_after}
