@@ -1,6 +1,6 @@
 //! What is wrong with a text that is no JSON, and how that is told.
 
-use crate::place::place_of;
+use crate::place::place_after_bytes;
 use crate::wanted::Wanted;
 #[cfg(feature = "std")]
 use program_io::fault::InputFault;
@@ -22,10 +22,21 @@ pub enum JsonFault {
 
 // The fault of the byte at a place, or of the end.
 pub(crate) fn fault_at(text: &[u8], place: usize, wanted: Wanted) -> JsonFault {
-    let (line, column) = place_of(text, place);
+    fault_from((1, 1), text, place, wanted)
+}
+
+// The same of bytes of which the first has this line and column.
+pub(crate) fn fault_from(
+    origin: (usize, usize),
+    text: &[u8],
+    place: usize,
+    wanted: Wanted,
+) -> JsonFault {
     if place < text.len() {
+        let (line, column) = place_after_bytes(origin, &text[..place]);
         JsonFault::Unexpected(line, column, text[place], wanted)
     } else {
+        let (line, column) = place_after_bytes(origin, text);
         JsonFault::Ended(line, column, wanted)
     }
 }
@@ -103,5 +114,29 @@ impl InputFault for JsonFault {
     fn write_line<W: WriteText>(&self, errors: &mut W) -> io::Result<()> {
         self.write(errors)?;
         errors.write_bytes(b"\n")
+    }
+}
+
+/// A fault of one of several texts, which come one after another.
+#[derive(Clone, Copy, Debug, PartialEq, Eq)]
+pub struct TextFault {
+    /// Which text it is, from 1.
+    pub text: usize,
+    /// Its fault. The line and the column are those of the input.
+    pub fault: JsonFault,
+}
+
+#[cfg(feature = "std")]
+impl InputFault for TextFault {
+    /// 1
+    fn status(&self) -> u8 {
+        self.fault.status()
+    }
+
+    fn write_line<W: WriteText>(&self, errors: &mut W) -> io::Result<()> {
+        if 1 < self.text {
+            errors.write_text(format_args!("text {}, ", self.text))?;
+        }
+        self.fault.write_line(errors)
     }
 }

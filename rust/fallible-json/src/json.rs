@@ -12,7 +12,7 @@ use core::str::from_utf8;
 use program_io::memory::{Fault, Global};
 
 // How many bytes come before that at which a fault was met.
-fn fault_place(text: &[u8], fault: Misplaced<LexFault<Infallible>>) -> usize {
+pub(crate) fn fault_place(text: &[u8], fault: Misplaced<LexFault<Infallible>>) -> usize {
     match fault {
         Misplaced::Source(LexFault::Source(never)) => match never {},
         Misplaced::Source(LexFault::Unknown(place)) => place,
@@ -29,7 +29,7 @@ fn fault_place(text: &[u8], fault: Misplaced<LexFault<Infallible>>) -> usize {
 }
 
 // What could come at a fault, where these tokens may.
-fn wanted_at(fault: Misplaced<LexFault<Infallible>>, tokens: Wanted) -> Wanted {
+pub(crate) fn wanted_at(fault: Misplaced<LexFault<Infallible>>, tokens: Wanted) -> Wanted {
     match fault {
         Misplaced::Source(LexFault::Unfinished(_, within)) => within,
         _ => tokens,

@@ -21,23 +21,28 @@ mod fault;
 mod grammar;
 mod json;
 mod lexer;
+mod making;
 mod minifying;
 mod place;
 mod report;
 mod text;
+mod texts;
 mod token;
 mod wanted;
 #[cfg(doc)]
 pub mod words;
 
 pub use bytes::PlacedBytes;
-pub use fault::JsonFault;
+pub use fault::{JsonFault, TextFault};
 pub use json::MakeJson;
 pub use lexer::{LexFault, Tokens};
+pub use making::MakeTexts;
 pub use minifying::{Misplaced, minify};
 pub use place::place_of;
+pub use report::Prints;
 #[cfg(feature = "std")]
 pub use report::run;
+pub use texts::Texts;
 pub use token::Token;
 pub use wanted::Wanted;
 

@@ -19,7 +19,8 @@ pub enum Misplaced<E> {
 }
 
 // Adds a byte.
-fn add_byte(json: &mut Vec<u8>, byte: u8) -> Result<(), AllocError> {
+#[inline(always)]
+pub(crate) fn add_byte(json: &mut Vec<u8>, byte: u8) -> Result<(), AllocError> {
     // No memory: a push fails only if an allocation does.
     if json.try_push(byte).is_err() {
         return Err(AllocError);
@@ -28,7 +29,13 @@ fn add_byte(json: &mut Vec<u8>, byte: u8) -> Result<(), AllocError> {
 }
 
 // Adds the bytes of a text from the first to the last; none, where it has no such bytes.
-fn add_bytes(json: &mut Vec<u8>, text: &[u8], first: usize, last: usize) -> Result<(), AllocError> {
+#[inline(always)]
+pub(crate) fn add_bytes(
+    json: &mut Vec<u8>,
+    text: &[u8],
+    first: usize,
+    last: usize,
+) -> Result<(), AllocError> {
     if text.len() <= last || last < first {
         return Ok(());
     }

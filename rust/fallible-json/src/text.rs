@@ -71,6 +71,26 @@ fn run_in(text: &[u8], from: usize, begun: Phase) -> (usize, Phase) {
     }
 }
 
+// A token, after the places of its first byte and its last.
+type Drawn = Result<Option<(usize, usize, Token)>, LexFault<Infallible>>;
+
+// The token that comes next at a place, and where those after it are looked for.
+pub(crate) fn token_at(text: &[u8], place: usize) -> (Drawn, usize) {
+    let first = blanks_end(text, place);
+    if text.len() <= first {
+        return (Ok(None), place);
+    }
+    let byte = text[first];
+    if let Some(token) = sign_of(byte) {
+        return (Ok(Some((first, first, token))), first + 1);
+    }
+    let Some(begun) = letter_begun(byte) else {
+        return (Err(LexFault::Unknown(first)), first + 1);
+    };
+    let (end, phase) = run_in(text, first + 1, begun);
+    (closed(first, end - 1, phase), end)
+}
+
 // The tokens of a text, each after the places of its first byte and its last, as `Tokens` yields them of `PlacedBytes`. Blanks, digits and the bytes of a string are stepped over a run at a time.
 pub(crate) struct TextTokens<'a> {
     text: &'a [u8],
@@ -84,22 +104,9 @@ impl FallibleIterator for TextTokens<'_> {
     type Error = LexFault<Infallible>;
 
     fn next(&mut self) -> Result<Option<(usize, usize, Token)>, LexFault<Infallible>> {
-        let first = blanks_end(self.text, self.place);
-        if self.text.len() <= first {
-            return Ok(None);
-        }
-        let byte = self.text[first];
-        if let Some(token) = sign_of(byte) {
-            self.place = first + 1;
-            return Ok(Some((first, first, token)));
-        }
-        let Some(begun) = letter_begun(byte) else {
-            self.place = first + 1;
-            return Err(LexFault::Unknown(first));
-        };
-        let (end, phase) = run_in(self.text, first + 1, begun);
-        self.place = end;
-        closed(first, end - 1, phase)
+        let (drawn, place) = token_at(self.text, self.place);
+        self.place = place;
+        drawn
     }
 
     fn size_hint(&self) -> (usize, Option<usize>) {

@@ -51,6 +51,11 @@ pub trait TryVec<T>: Sized {
     /// As `reserve`.
     fn try_make_room(&mut self, additional: usize) -> Result<(), AllocError>;
 
+    /// As `resize`.
+    fn try_resize(&mut self, len: usize, item: T) -> Result<(), AllocError>
+    where
+        T: Clone;
+
     /// As `push`.
     fn try_push(&mut self, item: T) -> Result<(), AllocError>;
 
@@ -79,6 +84,15 @@ impl<T> TryVec<T> for Vec<T> {
 
     fn try_make_room(&mut self, additional: usize) -> Result<(), AllocError> {
         self.try_reserve(additional).map_err(|_| AllocError)
+    }
+
+    fn try_resize(&mut self, len: usize, item: T) -> Result<(), AllocError>
+    where
+        T: Clone,
+    {
+        self.try_make_room(len.saturating_sub(self.len()))?;
+        self.resize(len, item);
+        Ok(())
     }
 
     #[inline]
@@ -113,8 +127,8 @@ impl<T> TryVec<T> for Vec<T> {
     where
         T: Clone,
     {
-        let mut made = Vec::try_with_room(count)?;
-        made.resize(count, item);
+        let mut made = Vec::new();
+        made.try_resize(count, item)?;
         Ok(made)
     }
 }
