@@ -22,6 +22,32 @@ report='records 1
 low 1
 high 258'
 
+# Runs a program over devices that refuse: a good input, and one that has a fault of this status.
+over_devices() {
+    begin
+    "$program" <&- >"$work/out" 2>"$work/err" || status=$?
+    compare 'input closed' 2 '' 'read failed'
+
+    over / 'input a folder' 2 '' 'read failed'
+
+    begin
+    "$program" <"$1" >&- 2>"$work/err" || status=$?
+    compare 'output closed' 4 '' 'write failed'
+
+    begin
+    "$program" <"$1" >/dev/full 2>"$work/err" || status=$?
+    compare 'output full' 4 '' 'write failed'
+
+    # Where the fault cannot be told, its status still says it.
+    begin
+    "$program" <"$2" >"$work/out" 2>&- || status=$?
+    compare 'error closed, a fault' "$3" '' ''
+
+    begin
+    "$program" <&- >&- 2>&- || status=$?
+    compare 'all closed' 2 '' ''
+}
+
 build sum_table
 
 over "$work/good" 'one record' 0 "$report" ''
@@ -52,28 +78,7 @@ begin
 cat "$work/long" "$work/cut" | "$program" >"$work/out" 2>"$work/err" || status=$?
 compare 'a cut record after them' 5 '' 'record 20002: cut short'
 
-begin
-"$program" <&- >"$work/out" 2>"$work/err" || status=$?
-compare 'input closed' 2 '' 'read failed'
-
-over / 'input a folder' 2 '' 'read failed'
-
-begin
-"$program" <"$work/good" >&- 2>"$work/err" || status=$?
-compare 'output closed' 4 '' 'write failed'
-
-begin
-"$program" <"$work/good" >/dev/full 2>"$work/err" || status=$?
-compare 'output full' 4 '' 'write failed'
-
-# Where the fault cannot be told, its status still says it.
-begin
-"$program" <"$work/cut" >"$work/out" 2>&- || status=$?
-compare 'error closed, a cut record' 5 '' ''
-
-begin
-"$program" <&- >&- 2>&- || status=$?
-compare 'all closed' 2 '' ''
+over_devices "$work/good" "$work/cut" 5
 
 # The words that it is given.
 usage='usage: sum_table [FILE]
@@ -174,19 +179,7 @@ over "$work/no_text" 'a byte 0xff' 1 '' 'byte 17: not UTF-8'
 
 over "$work/cut_character" 'a character cut short, after a bad row' 1 '' 'row 1: not a key and an amount'
 
-begin
-"$program" <&- >"$work/out" 2>"$work/err" || status=$?
-compare 'rows closed' 2 '' 'read failed'
-
-over / 'rows a folder' 2 '' 'read failed'
-
-begin
-"$program" <"$work/rows" >&- 2>"$work/err" || status=$?
-compare 'groups closed' 4 '' 'write failed'
-
-begin
-"$program" <"$work/rows" >/dev/full 2>"$work/err" || status=$?
-compare 'groups full' 4 '' 'write failed'
+over_devices "$work/rows" "$work/no_row" 1
 
 begin
 "$program" <"$work/rows" 1</dev/null 2>"$work/err" || status=$?
@@ -200,18 +193,9 @@ begin
 "$program" <"$work/rows" >"$work/out" 2>&- || status=$?
 compare 'error closed' 0 "$groups" ''
 
-# Where the fault cannot be told, its status still says it.
-begin
-"$program" <"$work/no_row" >"$work/out" 2>&- || status=$?
-compare 'error closed, a bad row' 1 '' ''
-
 begin
 "$program" <"$work/rows" >/dev/full 2>/dev/full || status=$?
 compare 'groups and error full' 4 '' ''
-
-begin
-"$program" <&- >&- 2>&- || status=$?
-compare 'all closed' 2 '' ''
 
 echo "table runs of sum_groups: $compared runs compared"
 echo "table runs: $differ differ"
