@@ -79,16 +79,11 @@ fn run<M: MakeReport, R: ReadLine, W: WriteText>(
     ensures { ComesTo R.left (Fails R.left R.fails) input.old input.new (M.refused maker.now) W.failed
         (W.written output.old) (W.written output.new) output.new result }
 {
-    let bytes = match read_rows(alloc, input) {
-        Ok(bytes) => bytes,
-        Err(fault) => return Err(fault),
-    };
-    match report_of_bytes(maker, bytes.as_slice()) {
-        Ok(report) => match output.write_bytes(report.as_slice()) {
-            Ok(()) => Ok(()),
-            Err(_) => Err(RunFault::Write),
-        },
-        Err(fault) => Err(fault),
+    let bytes = read_rows(alloc, input)?;
+    let report = report_of_bytes(maker, bytes.as_slice())?;
+    match output.write_bytes(report.as_slice()) {
+        Ok(()) => Ok(()),
+        Err(_) => Err(RunFault::Write),
     }
 }
 
