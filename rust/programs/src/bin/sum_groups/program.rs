@@ -60,16 +60,11 @@ fn run<M: MakeReport, R: ReadLine, W: WriteText>(
     input: &mut R,
     output: &mut W,
 ) -> Result<(), RunFault<GroupsFault>> {
-    let bytes = match read_rows(input) {
-        Ok(bytes) => bytes,
-        Err(fault) => return Err(fault),
-    };
-    match report_of_bytes(maker, bytes.as_slice()) {
-        Ok(report) => match output.write_bytes(report.as_slice()) {
-            Ok(()) => Ok(()),
-            Err(_) => Err(RunFault::Write),
-        },
-        Err(fault) => Err(fault),
+    let bytes = read_rows(input)?;
+    let report = report_of_bytes(maker, bytes.as_slice())?;
+    match output.write_bytes(report.as_slice()) {
+        Ok(()) => Ok(()),
+        Err(_) => Err(RunFault::Write),
     }
 }
 
