@@ -1,31 +1,12 @@
 // The program, over any input and any two outputs.
-ghost use Rattle.count_rows.specs.Program.{ComesTo};
 ghost use Rattle.fallible_rows.specs.Fault.{status_of, text_of};
+ghost use Rattle.fallible_rows.specs.Run.{ComesTo};
 ghost use Rattle.program_io.specs.Endings.{EndsWith};
 
-use fallible_rows::{BadRow, ReadByte, run};
+use fallible_rows::{ReadByte, run};
 use program_io::ending::ended;
-use program_io::fault::RunFault;
 use program_io::writing::WriteText;
 use std::alloc::Global;
-
-// `run` over `input`.
-fn run_rows<R: ReadByte, W: WriteText>(
-    alloc: Global,
-    input: &mut R,
-    output: &mut W,
-) -> Result<(), RunFault<BadRow>>
-    ensures { ComesTo R.left R.stays input.old input.new W.failed
-        (W.written output.old) (W.written output.new) output.new result }
-{
-    match run(alloc, input, output) {
-        Ok(()) => Ok(()),
-        Err(RunFault::Input(row)) => Err(RunFault::Input(row)),
-        Err(RunFault::Read) => Err(RunFault::Read),
-        Err(RunFault::Memory) => Err(RunFault::Memory),
-        Err(RunFault::Write) => Err(RunFault::Write),
-    }
-}
 
 // Runs over `input`, and tells `errors` of a fault, with the name of the input where that has one. The status that the program ends with; an `Err` where there was a line to tell and it could not be written.
 pub(crate) fn program<R: ReadByte, W: WriteText, E: WriteText>(
@@ -40,5 +21,5 @@ pub(crate) fn program<R: ReadByte, W: WriteText, E: WriteText>(
         (ComesTo R.left R.stays input.old input.new W.failed
         (W.written output.old) (W.written output.new) output.new) result }
 {
-    ended(run_rows(alloc, input, output), name, errors)
+    ended(run(alloc, input, output), name, errors)
 }

@@ -37,23 +37,23 @@ module _ {A : Type 0} where
 
   -- ---- a count up to a most
 
-  from_up_to_most : (b : ℕ) (l : List (Result A ElfFault)) (n : ℕ) → b ≤ 2 ^ 64 - 1 → folded (λ e. e) (λ n _. Ok (min (n + 1) (2 ^ 64 - 1))) b l ≡ Ok n → (xs : List A) × (collected l ≡ Ok xs) × (n ≡ min (b + length xs) (2 ^ 64 - 1))
+  collected_where_saturating_count_from : (b : ℕ) (l : List (Result A ElfFault)) (n : ℕ) → b ≤ 2 ^ 64 - 1 → folded (λ e. e) (λ n _. Ok (min (n + 1) (2 ^ 64 - 1))) b l ≡ Ok n → (xs : List A) × (collected l ≡ Ok xs) × (n ≡ min (b + length xs) (2 ^ 64 - 1))
   unfolding folded collected
-  from_up_to_most b [] n small e = let same : b ≡ n = cc in ([], refl, omega (arith, small, same))
-  from_up_to_most b (Ok x ∷ l) n small e =
-      let rest = from_up_to_most (min (b + 1) (2 ^ 64 - 1)) l n (omega arith) e in
+  collected_where_saturating_count_from b [] n small e = let same : b ≡ n = cc in ([], refl, omega (arith, small, same))
+  collected_where_saturating_count_from b (Ok x ∷ l) n small e =
+      let rest = collected_where_saturating_count_from (min (b + 1) (2 ^ 64 - 1)) l n (omega arith) e in
       (x ∷ rest.0, ap (before x) rest.1, omega (arith, small, rest.2))
-  from_up_to_most b (Err f ∷ l) n small e = absurd (cc)
+  collected_where_saturating_count_from b (Err f ∷ l) n small e = absurd (cc)
 
-  pub collected_where_up_to_most : (l : List (Result A ElfFault)) (n : ℕ) → folded (λ e. e) (λ n _. Ok (min (n + 1) (2 ^ 64 - 1))) 0 l ≡ Ok n → (xs : List A) × (collected l ≡ Ok xs)
-  collected_where_up_to_most l n e = let all = from_up_to_most 0 l n (omega arith) e in (all.0, all.1)
+  pub collected_where_saturating_count : (l : List (Result A ElfFault)) (n : ℕ) → folded (λ e. e) (λ n _. Ok (min (n + 1) (2 ^ 64 - 1))) 0 l ≡ Ok n → (xs : List A) × (collected l ≡ Ok xs)
+  collected_where_saturating_count l n e = let all = collected_where_saturating_count_from 0 l n (omega arith) e in (all.0, all.1)
 
   -- where it is below the most
-  pub collected_up_to_most : (l : List (Result A ElfFault)) (n : ℕ) → folded (λ e. e) (λ n _. Ok (min (n + 1) (2 ^ 64 - 1))) 0 l ≡ Ok n → (n ≡ 2 ^ 64 - 1 → ⊥) → (xs : List A) × (collected l ≡ Ok xs) × (n ≡ length xs)
-  collected_up_to_most l n e below = let all = from_up_to_most 0 l n (omega arith) e in (all.0, all.1, omega (arith, all.2, below))
+  pub collected_below_saturation : (l : List (Result A ElfFault)) (n : ℕ) → folded (λ e. e) (λ n _. Ok (min (n + 1) (2 ^ 64 - 1))) 0 l ≡ Ok n → (n ≡ 2 ^ 64 - 1 → ⊥) → (xs : List A) × (collected l ≡ Ok xs) × (n ≡ length xs)
+  collected_below_saturation l n e below = let all = collected_where_saturating_count_from 0 l n (omega arith) e in (all.0, all.1, omega (arith, all.2, below))
 
-  pub collected_failure_up_to_most : (b : ℕ) (l : List (Result A ElfFault)) (f : ElfFault) → folded (λ e. e) (λ n _. Ok (min (n + 1) (2 ^ 64 - 1))) b l ≡ Err f → collected l ≡ Err f
+  pub collected_failure_of_saturating_count : (b : ℕ) (l : List (Result A ElfFault)) (f : ElfFault) → folded (λ e. e) (λ n _. Ok (min (n + 1) (2 ^ 64 - 1))) b l ≡ Err f → collected l ≡ Err f
   unfolding folded collected
-  collected_failure_up_to_most b [] f e = absurd (cc)
-  collected_failure_up_to_most b (Ok x ∷ l) f e = ap (before x) (collected_failure_up_to_most (min (b + 1) (2 ^ 64 - 1)) l f e)
-  collected_failure_up_to_most b (Err g ∷ l) f e = cc
+  collected_failure_of_saturating_count b [] f e = absurd (cc)
+  collected_failure_of_saturating_count b (Ok x ∷ l) f e = ap (before x) (collected_failure_of_saturating_count (min (b + 1) (2 ^ 64 - 1)) l f e)
+  collected_failure_of_saturating_count b (Err g ∷ l) f e = cc

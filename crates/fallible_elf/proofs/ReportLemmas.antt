@@ -6,14 +6,14 @@ use Rattle.std.specs.Io.KnownBytes.{Appends}
 use Rattle.fallible_iterator.specs.Fault.{Fault}
 use Rattle.fallible_iterator.specs.Fault.TheVariants.{Source}
 use Rattle.fallible_iterator.specs.Lists.{collected, on_value, CollectedAs}
-use Rattle.fallible_elf.proofs.CountLemmas.{collected_where_up_to_most, collected_up_to_most, collected_failure_up_to_most}
+use Rattle.fallible_elf.proofs.CountLemmas.{collected_where_saturating_count, collected_below_saturation, collected_failure_of_saturating_count}
 use Rattle.fallible_elf.proofs.HeaderFaults.{named_sections_of_header_fault, report_of_header_fault}
 use Rattle.fallible_elf.specs.Names.{names_check}
 use Rattle.fallible_elf.specs.Overlaps.{apart_check}
 use Rattle.fallible_elf.specs.Reading.{ReadsHead, HasHeaderFault}
 use Rattle.fallible_elf.specs.Report.{named_sections, ranges_apart, found_of, first_damage, report_with, report_of, HasSectionsOf, HasFound, LeavesWriter, Reports, ReadsFaulty}
 use Rattle.fallible_elf.specs.Sections.{headers_of}
-use Rattle.fallible_elf.specs.Sets.{range_sections, sets_of, ranges_of, counted_up_to_most}
+use Rattle.fallible_elf.specs.Sets.{range_sections, sets_of, ranges_of, saturating_count}
 use Rattle.fallible_elf.specs.Text.{text_where, sections_text, sets_text, ranges_text}
 use Rattle.program_io.specs.declared.fault.RunFault.{RunFault}
 use Rattle.program_io.specs.declared.fault.RunFault.TheVariants.{Input, Read, Memory, Write}
@@ -112,17 +112,17 @@ told_found bytes (Ok x) made is = tt
 told_found bytes (Err g) made is = λ apart. is apart ∙ ap Err (sym made)
 
 -- so many sets and ranges, by their counts
-pub has_found : (bytes : List ℕ) (found : Found) → ranges_apart bytes ≡ Ok tt → counted_up_to_most (sets_of bytes) ≡ Ok found.sets → counted_up_to_most (ranges_of bytes) ≡ Ok found.ranges → (found.sets ≡ 2 ^ 64 - 1 → ⊥) → (found.ranges ≡ 2 ^ 64 - 1 → ⊥) → HasFound bytes found
+pub has_found : (bytes : List ℕ) (found : Found) → ranges_apart bytes ≡ Ok tt → saturating_count (sets_of bytes) ≡ Ok found.sets → saturating_count (ranges_of bytes) ≡ Ok found.ranges → (found.sets ≡ 2 ^ 64 - 1 → ⊥) → (found.ranges ≡ 2 ^ 64 - 1 → ⊥) → HasFound bytes found
 has_found bytes found apart s r s_exact r_exact =
-    let sets = collected_up_to_most (sets_of bytes) found.sets s s_exact in
-    let ranges = collected_up_to_most (ranges_of bytes) found.ranges r r_exact in
+    let sets = collected_below_saturation (sets_of bytes) found.sets s s_exact in
+    let ranges = collected_below_saturation (ranges_of bytes) found.ranges r r_exact in
     (sets.0, ranges.0, found_of_sets_and_ranges bytes sets.0 ranges.0 apart sets.1 ranges.1, sets.2, ranges.2)
 
-pub found_of_uncounted_sets : (bytes : List ℕ) (f : ElfFault) → counted_up_to_most (sets_of bytes) ≡ Err f → ranges_apart bytes ≡ Ok tt → found_of bytes ≡ Err f
-found_of_uncounted_sets bytes f s apart = found_of_faulty_sets bytes f apart (collected_failure_up_to_most 0 (sets_of bytes) f s)
+pub found_of_uncounted_sets : (bytes : List ℕ) (f : ElfFault) → saturating_count (sets_of bytes) ≡ Err f → ranges_apart bytes ≡ Ok tt → found_of bytes ≡ Err f
+found_of_uncounted_sets bytes f s apart = found_of_faulty_sets bytes f apart (collected_failure_of_saturating_count 0 (sets_of bytes) f s)
 
-pub found_of_uncounted_ranges : (bytes : List ℕ) (n : ℕ) (f : ElfFault) → counted_up_to_most (sets_of bytes) ≡ Ok n → counted_up_to_most (ranges_of bytes) ≡ Err f → ranges_apart bytes ≡ Ok tt → found_of bytes ≡ Err f
-found_of_uncounted_ranges bytes n f s r apart = let sets = collected_where_up_to_most (sets_of bytes) n s in found_of_faulty_ranges bytes sets.0 f apart sets.1 (collected_failure_up_to_most 0 (ranges_of bytes) f r)
+pub found_of_uncounted_ranges : (bytes : List ℕ) (n : ℕ) (f : ElfFault) → saturating_count (sets_of bytes) ≡ Ok n → saturating_count (ranges_of bytes) ≡ Err f → ranges_apart bytes ≡ Ok tt → found_of bytes ≡ Err f
+found_of_uncounted_ranges bytes n f s r apart = let sets = collected_where_saturating_count (sets_of bytes) n s in found_of_faulty_ranges bytes sets.0 f apart sets.1 (collected_failure_of_saturating_count 0 (ranges_of bytes) f r)
 
 -- ---- a report
 

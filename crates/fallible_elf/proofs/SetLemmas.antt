@@ -5,7 +5,7 @@ use Rattle.std.proofs.lemmas.Bool.{lt-ltb, le-ltb}
 use Rattle.fallible_iterator.specs.Lists.{on_value}
 use Rattle.fallible_iterator.specs.Showing.{TakesShown}
 use Rattle.fallible_elf.specs.Faults.{fault_in, first_fault}
-use Rattle.fallible_elf.specs.Sets.{form_checks, short_checks, long_checks, is_long, short_set, long_set, set_at, set_then, sets_from, sets_between, region_of, sets_of_region, sets_in}
+use Rattle.fallible_elf.specs.Sets.{form_checks, dwarf32_checks, dwarf64_checks, is_dwarf64, dwarf32_set, dwarf64_set, set_at, set_then, sets_from, sets_between, region_of, sets_of_region, sets_in}
 use Rattle.fallible_elf.specs.declared.fault.ElfFault.{ElfFault}
 use Rattle.fallible_elf.specs.declared.section.Section.{Section}
 use Rattle.fallible_elf.specs.declared.set.Region.{Region}
@@ -22,21 +22,21 @@ set_made_by_words (Ok u) s t e = e
 set_made_by_words (Err f) s t e = absurd (cc)
 
 -- a set ends after its place, whatever its form
-place_below_short_end : (bytes : List ℕ) (limit place : ℕ) (set : Set) → short_set bytes limit place ≡ Ok set → place < set.end
-unfolding short_set
-place_below_short_end bytes limit place set e = let h = ap (λ (s : Set). s.end) (set_is_made (first_fault (short_checks bytes limit place)) _ set e) in omega (arith, h)
+place_below_dwarf32_end : (bytes : List ℕ) (limit place : ℕ) (set : Set) → dwarf32_set bytes limit place ≡ Ok set → place < set.end
+unfolding dwarf32_set
+place_below_dwarf32_end bytes limit place set e = let h = ap (λ (s : Set). s.end) (set_is_made (first_fault (dwarf32_checks bytes limit place)) _ set e) in omega (arith, h)
 
-place_below_long_end : (bytes : List ℕ) (limit place : ℕ) (set : Set) → long_set bytes limit place ≡ Ok set → place < set.end
-unfolding long_set
-place_below_long_end bytes limit place set e = let h = ap (λ (s : Set). s.end) (set_is_made (first_fault (long_checks bytes limit place)) _ set e) in omega (arith, h)
+place_below_dwarf64_end : (bytes : List ℕ) (limit place : ℕ) (set : Set) → dwarf64_set bytes limit place ≡ Ok set → place < set.end
+unfolding dwarf64_set
+place_below_dwarf64_end bytes limit place set e = let h = ap (λ (s : Set). s.end) (set_is_made (first_fault (dwarf64_checks bytes limit place)) _ set e) in omega (arith, h)
 
-place_below_either_end : (long : Bool) (bytes : List ℕ) (limit place : ℕ) (set : Set) → (if long then long_set bytes limit place else short_set bytes limit place) ≡ Ok set → place < set.end
-place_below_either_end true bytes limit place set e = place_below_long_end bytes limit place set e
-place_below_either_end false bytes limit place set e = place_below_short_end bytes limit place set e
+place_below_either_end : (long : Bool) (bytes : List ℕ) (limit place : ℕ) (set : Set) → (if long then dwarf64_set bytes limit place else dwarf32_set bytes limit place) ≡ Ok set → place < set.end
+place_below_either_end true bytes limit place set e = place_below_dwarf64_end bytes limit place set e
+place_below_either_end false bytes limit place set e = place_below_dwarf32_end bytes limit place set e
 
 place_below_end : (bytes : List ℕ) (limit place : ℕ) (set : Set) → set_at bytes limit place ≡ Ok set → place < set.end
 unfolding set_at
-place_below_end bytes limit place set e = place_below_either_end (is_long bytes place) bytes limit place set (set_made_by_words (first_fault (form_checks bytes limit place)) _ set e)
+place_below_end bytes limit place set e = place_below_either_end (is_dwarf64 bytes place) bytes limit place set (set_made_by_words (first_fault (form_checks bytes limit place)) _ set e)
 
 -- where two bounds on how many come are large enough, the same sets come
 set_then_alike : (bytes : List ℕ) (limit place : ℕ) (y : Result Set ElfFault) (rest rest' : Set → List (Result Set ElfFault)) → ((set : Set) → y ≡ Ok set → rest set ≡ rest' set) → set_then y rest ≡ set_then y rest'

@@ -14,57 +14,57 @@ use Rattle.fallible_elf.specs.declared.set.Range.{Range}
 
 -- ---- one set
 
--- A set has one of two forms. In the short one four bytes say how many bytes come after them, fewer than 2 ^ 32 - 16, and the offset of the unit has four bytes. In the long one four bytes of 255 come first, then eight that say how many bytes come after them, and the offset of the unit has eight bytes.
+-- A set has one of two forms, of 32-bit and of 64-bit DWARF. In the first four bytes say how many bytes come after them, fewer than 2 ^ 32 - 16, and the offset of the unit has four bytes. In the second four bytes of 255 come first, then eight that say how many bytes come after them, and the offset of the unit has eight bytes.
 
--- whether the set at a place has the long form
-abbrev pub is_long : List ℕ → ℕ → Bool
-is_long bytes place = eqb (u32_at bytes place) 4294967295
+-- whether the set at a place is one of 64-bit DWARF
+abbrev pub is_dwarf64 : List ℕ → ℕ → Bool
+is_dwarf64 bytes place = eqb (u32_at bytes place) 4294967295
 
--- where a set of the short form ends that begins at a place
-abbrev pub short_end : List ℕ → ℕ → ℕ
-short_end bytes place = place + 4 + u32_at bytes place
+-- where a set of 32-bit DWARF ends that begins at a place
+abbrev pub dwarf32_end : List ℕ → ℕ → ℕ
+dwarf32_end bytes place = place + 4 + u32_at bytes place
 
--- where a set of the long form ends that begins at a place
-abbrev pub long_end : List ℕ → ℕ → ℕ
-long_end bytes place = place + 12 + u64_at bytes (place + 4)
+-- where a set of 64-bit DWARF ends that begins at a place
+abbrev pub dwarf64_end : List ℕ → ℕ → ℕ
+dwarf64_end bytes place = place + 12 + u64_at bytes (place + 4)
 
--- The set at a place of a section that ends at the limit has the short or the long form. Each has at least 16 bytes.
+-- The set at a place of a section that ends at the limit is one of 32-bit or of 64-bit DWARF. Each has at least 16 bytes.
 abbrev pub form_checks : List ℕ → ℕ → ℕ → List (Bool × ElfFault)
 form_checks bytes limit place =
     (nat_le (place + 16) limit, fault_at place SetCut)
-    ∷ (nat_lt (u32_at bytes place) 4294967280 || is_long bytes place, fault_at place SetForm)
+    ∷ (nat_lt (u32_at bytes place) 4294967280 || is_dwarf64 bytes place, fault_at place SetForm)
     ∷ []
 
--- A set of the short form: 16 bytes stand before its ranges. It ends in the section, after those 16 bytes. Its version, at 4, is 2. At 10 stands the size of an address, 8, and at 11 that of a segment, 0.
-abbrev pub short_checks : List ℕ → ℕ → ℕ → List (Bool × ElfFault)
-short_checks bytes limit place =
-    (nat_le (place + 16) (short_end bytes place) && nat_le (short_end bytes place) limit, fault_at place SetCut)
+-- A set of 32-bit DWARF: 16 bytes stand before its ranges. It ends in the section, after those 16 bytes. Its version, at 4, is 2. At 10 stands the size of an address, 8, and at 11 that of a segment, 0.
+abbrev pub dwarf32_checks : List ℕ → ℕ → ℕ → List (Bool × ElfFault)
+dwarf32_checks bytes limit place =
+    (nat_le (place + 16) (dwarf32_end bytes place) && nat_le (dwarf32_end bytes place) limit, fault_at place SetCut)
     ∷ (eqb (u16_at bytes (place + 4)) 2, fault_at (place + 4) SetVersion)
     ∷ (eqb (slice_index bytes (place + 10)) 8, fault_at (place + 10) AddressSize)
     ∷ (eqb (slice_index bytes (place + 11)) 0, fault_at (place + 11) SegmentSize)
     ∷ []
 
--- A set of the long form: 32 bytes stand before its ranges. It ends in the section, after those 32 bytes. Its version, at 12, is 2. At 22 stands the size of an address, 8, and at 23 that of a segment, 0.
-abbrev pub long_checks : List ℕ → ℕ → ℕ → List (Bool × ElfFault)
-long_checks bytes limit place =
+-- A set of 64-bit DWARF: 32 bytes stand before its ranges. It ends in the section, after those 32 bytes. Its version, at 12, is 2. At 22 stands the size of an address, 8, and at 23 that of a segment, 0.
+abbrev pub dwarf64_checks : List ℕ → ℕ → ℕ → List (Bool × ElfFault)
+dwarf64_checks bytes limit place =
     (nat_le (place + 32) limit, fault_at place SetCut)
-    ∷ (nat_le (place + 32) (long_end bytes place) && nat_le (long_end bytes place) limit, fault_at place SetCut)
+    ∷ (nat_le (place + 32) (dwarf64_end bytes place) && nat_le (dwarf64_end bytes place) limit, fault_at place SetCut)
     ∷ (eqb (u16_at bytes (place + 12)) 2, fault_at (place + 12) SetVersion)
     ∷ (eqb (slice_index bytes (place + 22)) 8, fault_at (place + 22) AddressSize)
     ∷ (eqb (slice_index bytes (place + 23)) 0, fault_at (place + 23) SegmentSize)
     ∷ []
 
--- the set of the short form, or its first fault: at 6 stands the offset of its unit
-unfoldable pub short_set : List ℕ → ℕ → ℕ → Result Set ElfFault
-short_set bytes limit place = on_value (first_fault (short_checks bytes limit place)) (λ _. Ok (record { unit = u32_at bytes (place + 6); place = place + 16; end = short_end bytes place }))
+-- the set of 32-bit DWARF, or its first fault: at 6 stands the offset of its unit
+unfoldable pub dwarf32_set : List ℕ → ℕ → ℕ → Result Set ElfFault
+dwarf32_set bytes limit place = on_value (first_fault (dwarf32_checks bytes limit place)) (λ _. Ok (record { unit = u32_at bytes (place + 6); place = place + 16; end = dwarf32_end bytes place }))
 
--- the set of the long form, or its first fault: at 14 stands the offset of its unit
-unfoldable pub long_set : List ℕ → ℕ → ℕ → Result Set ElfFault
-long_set bytes limit place = on_value (first_fault (long_checks bytes limit place)) (λ _. Ok (record { unit = u64_at bytes (place + 14); place = place + 32; end = long_end bytes place }))
+-- the set of 64-bit DWARF, or its first fault: at 14 stands the offset of its unit
+unfoldable pub dwarf64_set : List ℕ → ℕ → ℕ → Result Set ElfFault
+dwarf64_set bytes limit place = on_value (first_fault (dwarf64_checks bytes limit place)) (λ _. Ok (record { unit = u64_at bytes (place + 14); place = place + 32; end = dwarf64_end bytes place }))
 
 -- the set at a place, by its form, or its first fault
 unfoldable pub set_at : List ℕ → ℕ → ℕ → Result Set ElfFault
-set_at bytes limit place = on_value (first_fault (form_checks bytes limit place)) (λ _. if is_long bytes place then long_set bytes limit place else short_set bytes limit place)
+set_at bytes limit place = on_value (first_fault (form_checks bytes limit place)) (λ _. if is_dwarf64 bytes place then dwarf64_set bytes limit place else dwarf32_set bytes limit place)
 
 -- ---- the sets of a section
 
@@ -165,5 +165,5 @@ ranges_of bytes = flattened (ranges_in bytes) (sets_of bytes)
 -- ---- counts
 
 -- how many items there are, or 2 ^ 64 - 1 where there are more, or the first failure
-abbrev pub counted_up_to_most : {A : Type 0} → List (Result A ElfFault) → Result ℕ ElfFault
-counted_up_to_most l = folded (λ e. e) (λ n _. Ok (min (n + 1) (2 ^ 64 - 1))) 0 l
+abbrev pub saturating_count : {A : Type 0} → List (Result A ElfFault) → Result ℕ ElfFault
+saturating_count l = folded (λ e. e) (λ n _. Ok (min (n + 1) (2 ^ 64 - 1))) 0 l

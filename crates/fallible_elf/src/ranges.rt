@@ -5,7 +5,7 @@ ghost use Rattle.fallible_iterator.specs.Laws.Showing.{lawful_listing};
 ghost use Rattle.fallible_iterator.specs.Lists.{CollectedAs};
 ghost use Rattle.fallible_iterator.specs.Own.{bounded_by};
 ghost use Rattle.fallible_iterator.specs.Showing.{listing};
-ghost use Rattle.fallible_elf.specs.Sets.{ranges_from, ranges_in, ranges_of, counted_up_to_most};
+ghost use Rattle.fallible_elf.specs.Sets.{ranges_from, ranges_in, ranges_of, saturating_count};
 
 use crate::fault::{Damage, ElfFault};
 use crate::numbers::u64_at;
@@ -118,7 +118,7 @@ pub fn all_ranges(alloc: Global, file: &[u8]) -> Result<Vec<Range>, Fault<ElfFau
 
 /// How many ranges the sets of a file have, or 2 ^ 64 - 1 where there are more; or its first fault.
 pub fn count_ranges(file: &[u8]) -> Result<usize, ElfFault>
-    ensures { result ≡ counted_up_to_most (ranges_of file.now) }
+    ensures { result ≡ saturating_count (ranges_of file.now) }
 {
     let sets = sections_of(file)
         .filter(|section| Ok(has_ranges(file, section)))

@@ -1,6 +1,6 @@
 //! A set of address ranges.
 ghost use Rattle.std.specs.Prelude.{◌≡◌, ◌+◌, ◌<◌, ◌≤◌, length, IfOk};
-ghost use Rattle.fallible_elf.specs.Sets.{short_set, long_set, set_at};
+ghost use Rattle.fallible_elf.specs.Sets.{dwarf32_set, dwarf64_set, set_at};
 
 use crate::fault::{Damage, ElfFault};
 use crate::numbers::{u16_at, u32_at, u64_at};
@@ -37,12 +37,12 @@ pub struct Range {
 }
 
 impl Set {
-    // The set of the short form at a place of a section that ends at `limit`, or its first fault.
-    #[tactic(auto, unfolding(crate::specs::Sets::short_set))]
-    fn short_at(file: &[u8], limit: usize, place: usize) -> Result<Set, ElfFault>
+    // The set of 32-bit DWARF at a place of a section that ends at `limit`, or its first fault.
+    #[tactic(auto, unfolding(crate::specs::Sets::dwarf32_set))]
+    fn dwarf32_at(file: &[u8], limit: usize, place: usize) -> Result<Set, ElfFault>
         requires within { limit ≤ length file.now }
         requires room { place + 16 ≤ limit }
-        ensures value { result ≡ short_set file.now limit place }
+        ensures value { result ≡ dwarf32_set file.now limit place }
         ensures ends_after { IfOk result (λ set. place < set.end) }
     {
         let length = u32_at(file, place) as usize;
@@ -65,12 +65,12 @@ impl Set {
         })
     }
 
-    // The set of the long form at a place of a section that ends at `limit`, or its first fault.
-    #[tactic(auto, unfolding(crate::specs::Sets::long_set))]
-    fn long_at(file: &[u8], limit: usize, place: usize) -> Result<Set, ElfFault>
+    // The set of 64-bit DWARF at a place of a section that ends at `limit`, or its first fault.
+    #[tactic(auto, unfolding(crate::specs::Sets::dwarf64_set))]
+    fn dwarf64_at(file: &[u8], limit: usize, place: usize) -> Result<Set, ElfFault>
         requires within { limit ≤ length file.now }
         requires room { place + 16 ≤ limit }
-        ensures value { result ≡ long_set file.now limit place }
+        ensures value { result ≡ dwarf64_set file.now limit place }
         ensures ends_after { IfOk result (λ set. place < set.end) }
     {
         if limit - place < 32 {
@@ -109,11 +109,11 @@ impl Set {
         }
         let length = u32_at(file, place);
         if length == 0xffff_ffff {
-            return Set::long_at(file, limit, place);
+            return Set::dwarf64_at(file, limit, place);
         }
         if length >= 0xffff_fff0 {
             return Err(ElfFault::at(place, Damage::SetForm));
         }
-        Set::short_at(file, limit, place)
+        Set::dwarf32_at(file, limit, place)
     }
 }

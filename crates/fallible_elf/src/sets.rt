@@ -5,7 +5,7 @@ ghost use Rattle.fallible_iterator.specs.Laws.Showing.{lawful_listing};
 ghost use Rattle.fallible_iterator.specs.Lists.{CollectedAs};
 ghost use Rattle.fallible_iterator.specs.Own.{bounded_by};
 ghost use Rattle.fallible_iterator.specs.Showing.{listing};
-ghost use Rattle.fallible_elf.specs.Sets.{names_ranges, names_packed_ranges, has_ranges, is_compressed, relocates_lengths, region_of, range_sections, sets_between, sets_in, sets_of, counted_up_to_most};
+ghost use Rattle.fallible_elf.specs.Sets.{names_ranges, names_packed_ranges, has_ranges, is_compressed, relocates_lengths, region_of, range_sections, sets_between, sets_in, sets_of, saturating_count};
 
 use crate::fault::{Damage, ElfFault};
 use crate::numbers::u16_at;
@@ -197,7 +197,7 @@ pub fn all_sets(alloc: Global, file: &[u8]) -> Result<Vec<Set>, Fault<ElfFault>>
 
 /// How many sets the sections of a file have that have address ranges, or 2 ^ 64 - 1 where there are more; or its first fault.
 pub fn count_sets(file: &[u8]) -> Result<usize, ElfFault>
-    ensures { result ≡ counted_up_to_most (sets_of file.now) }
+    ensures { result ≡ saturating_count (sets_of file.now) }
 {
     let joined = sections_of(file)
         .filter(|section| Ok(has_ranges(file, section)))

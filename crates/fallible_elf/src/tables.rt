@@ -1,7 +1,7 @@
 //! How much is read of a file.
 ghost use Rattle.std.specs.Prelude.{◌≡◌, ◌≢◌, ◌^◌, ◌-◌, Ok, Err, IfOk, IfErr, IsTrue};
 ghost use Rattle.fallible_elf.specs.Report.{HasSectionsOf, HasFound, HasTables, found_of, named_sections, ranges_apart};
-ghost use Rattle.fallible_elf.specs.Sets.{counted_up_to_most, ranges_of, sets_of};
+ghost use Rattle.fallible_elf.specs.Sets.{saturating_count, ranges_of, sets_of};
 ghost use Rattle.fallible_elf.specs.declared.fault.ElfFault.{ElfFault};
 ghost use Rattle.fallible_iterator.specs.Fault.{Fault};
 
@@ -73,9 +73,9 @@ fn exact(found: Found) -> Result<Found, AllocError>
 
 // How many sets and ranges a file has, each up to 2 ^ 64 - 1; or their first fault.
 fn counts_of(file: &[u8]) -> Result<Found, ElfFault>
-    ensures sets { IfOk result (λ found. counted_up_to_most (sets_of file.now) ≡ Ok found.sets) }
+    ensures sets { IfOk result (λ found. saturating_count (sets_of file.now) ≡ Ok found.sets) }
     ensures ranges { IfOk result (λ found.
-        counted_up_to_most (ranges_of file.now) ≡ Ok found.ranges) }
+        saturating_count (ranges_of file.now) ≡ Ok found.ranges) }
     ensures fault { IfErr result (λ fault. ranges_apart file.now ≡ Ok tt
         → found_of file.now ≡ Err fault) }
 {

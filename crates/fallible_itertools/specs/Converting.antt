@@ -29,14 +29,14 @@ try_position_in convert h l = position_in h (failures_mapped convert l)
 -- ---- what they leave of it, where they drew no end
 
 -- whether a search stops by the closure's answer: by one that stops it, and by a failure
-abbrev pub stops_by : {V E' : Type 0} → (V → Bool) → Result V E' → Bool
-stops_by stops (Ok v) = stops v
-stops_by stops (Err e) = true
+abbrev pub stops_or_fails : {V E' : Type 0} → (V → Bool) → Result V E' → Bool
+stops_or_fails stops (Ok v) = stops v
+stops_or_fails stops (Err e) = true
 
 -- what comes after the first item x for which h x stops, or is a failure; or after the failure of the list that comes first
 unfoldable pub rest_try_stop : {A V E E' : Type 0} → (V → Bool) → (A → Result V E') → List (Result A E) → List (Result A E)
 rest_try_stop stops h [] = []
-rest_try_stop stops h (Ok x ∷ l) = stopped_or (stops_by stops (h x)) l (rest_try_stop stops h l)
+rest_try_stop stops h (Ok x ∷ l) = stopped_or (stops_or_fails stops (h x)) l (rest_try_stop stops h l)
 rest_try_stop stops h (Err e ∷ l) = l
 
 -- what `try_for_each` leaves: what comes after the first item on which h fails, or after the failure of the list that comes first

@@ -19,13 +19,13 @@ pub fn may_come_after<K: PartialOrd>(last: &Option<K>, key: &K) -> bool
 
 /// The turn of `is_sorted_by_key`, whose state is the last key, if an item came, and the closure: it stops at the first item whose key is out of order, or if the closure fails.
 #[derive(Drop)]
-pub struct SortedTurn;
+pub struct IsSortedByKeyTurn;
 
 impl<A, K: PartialOrd + Drop, E, F: FnMut(A) -> Result<K, E>> Turn<
     (Option<K>, F),
     A,
     Result<bool, E>,
-> for SortedTurn {
+> for IsSortedByKeyTurn {
     ghost can_turn = { λ _ p x. takes_by_value F.FnMut p.1 x };
 
     ghost turns = { λ _ p x r q. IsSearchTurn (OrderCall K.partial_cmp (call_by_value F.FnMut)) all_pick
@@ -50,9 +50,9 @@ impl<A, K: PartialOrd + Drop, E, F: FnMut(A) -> Result<K, E>> Turn<
 
 /// The turn of `is_sorted`, whose state is the last item, if one came, beside nothing: it stops at the first item that is out of order.
 #[derive(Drop)]
-pub struct InOrderTurn;
+pub struct IsSortedTurn;
 
-impl<A: PartialOrd + Drop, E> Turn<(Option<A>, ()), A, Result<bool, E>> for InOrderTurn {
+impl<A: PartialOrd + Drop, E> Turn<(Option<A>, ()), A, Result<bool, E>> for IsSortedTurn {
     ghost can_turn = { λ _ _ _. ⊤ };
 
     ghost turns = { λ _ p x r q. IsSearchTurn (OrderCall A.partial_cmp ItselfCall) all_pick

@@ -24,10 +24,10 @@ pub fn answer_pair<A: Drop, E, F: FnMut(&A, &A) -> Result<bool, E>>(
 
 /// The turn of `is_sorted_by`, whose state is the last item, if one came, and the closure: it stops at the first item that may not come after the last one, or if the closure fails.
 #[derive(Drop)]
-pub struct SortedByTurn;
+pub struct IsSortedByTurn;
 
 impl<A: Drop, E, F: FnMut(&A, &A) -> Result<bool, E>> Turn<(Option<A>, F), A, Result<bool, E>>
-    for SortedByTurn {
+    for IsSortedByTurn {
     ghost can_turn = { λ _ p x. takes_pair (takes_at_two F.FnMut) p x };
 
     ghost turns = { λ _ p x r q. IsSearchTurn (PairCall (call_at_two F.FnMut)) all_pick p x r q };

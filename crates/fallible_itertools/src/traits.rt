@@ -107,8 +107,8 @@ use crate::find_or_last::{FindFirstTurn, FindLastTurn, or_kept};
 use crate::find_position::FindPositionTurn;
 use crate::fold_while::{FoldWhile, FoldWhileTurn, while_or_stop};
 use crate::group_map::GroupMap;
-use crate::is_sorted::{InOrderTurn, SortedTurn};
-use crate::is_sorted_by::SortedByTurn;
+use crate::is_sorted::{IsSortedByKeyTurn, IsSortedTurn};
+use crate::is_sorted_by::IsSortedByTurn;
 use crate::join::JoinTurn;
 use crate::keyed::Keyed;
 use crate::minmax::{MinMaxResult, MinMaxTurn, lesser_first};
@@ -987,7 +987,7 @@ pub trait FallibleItertools: FallibleIterator {
             (λ h l. result ≡ in_order_by_key order h l) }
     {
         let mut state = (None, f);
-        answer_or(self.drive(&mut state, &SortedTurn), true)
+        answer_or(self.drive(&mut state, &IsSortedByKeyTurn), true)
     }
 
     /// Returns whether the closure returns true for each two adjacent items. It is called on references to an item and the next one.
@@ -1018,7 +1018,7 @@ pub trait FallibleItertools: FallibleIterator {
             (λ h l. result ≡ in_order_by h l) }
     {
         let mut state = (None, f);
-        answer_or(self.drive(&mut state, &SortedByTurn), true)
+        answer_or(self.drive(&mut state, &IsSortedByTurn), true)
     }
 
     /// Returns whether no item is less than the one before it. An item that can't be compared with the one before it counts as less.
@@ -1048,7 +1048,7 @@ pub trait FallibleItertools: FallibleIterator {
             → order ≡ Self.Item.partial_cmp
             → OverList Self.contract.steps self (λ l. result ≡ in_order order l) }
     {
-        answer_or(self.drive(&mut (None, ()), &InOrderTurn), true)
+        answer_or(self.drive(&mut (None, ()), &IsSortedTurn), true)
     }
 
     // ---- adapters that let results pass

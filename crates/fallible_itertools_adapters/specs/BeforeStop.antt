@@ -30,8 +30,8 @@ hint_unless_end hint (Some (Some e)) = hint
 hint_unless_end hint None = hint
 
 -- the hint of an adapter that holds so many
-abbrev pub held_hints : {H E : Type 0} → (H → ℕ) → H → Option (Option E) → HintPlan
-held_hints held h due = hint_unless_end (calls tt (held_hint (held h))) due
+abbrev pub held_hint_plan : {H E : Type 0} → (H → ℕ) → H → Option (Option E) → HintPlan
+held_hint_plan held h due = hint_unless_end (calls tt (held_hint (held h))) due
 
 -- If s returns the failure e, each hint that s may return is one that the value after it may return.
 abbrev pub HintsPastFailure : {S B E : Type 0} → Contract S B E → S → E → Type 0

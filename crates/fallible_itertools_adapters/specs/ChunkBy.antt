@@ -6,7 +6,7 @@ use Rattle.fallible_iterator.specs.Closures.{call_by_reference, takes_by_referen
 use Rattle.fallible_iterator.specs.Traces.{Answered, item}
 use Rattle.fallible_iterator.specs.Contract.{Contract, Inverse}
 use Rattle.fallible_itertools_adapters.specs.Batch.{Put, Puts, put_last}
-use Rattle.fallible_itertools_adapters.specs.BeforeStop.{before_stop, held_hints, held_one}
+use Rattle.fallible_itertools_adapters.specs.BeforeStop.{before_stop, held_hint_plan, held_one}
 use Rattle.fallible_itertools_adapters.specs.Plan.{Transition, Plan, bounded, calls, closure_contract, plan_meets}
 use Rattle.fallible_itertools_adapters.specs.Staged.{as_function, plan_does, staged}
 use Rattle.fallible_itertools_adapters.specs.Staging.{StagedTrace, one_emitted, stop_comes}
@@ -77,7 +77,7 @@ module _ {F A K E : Type 0} (from : AllocError → E → Type 0) (eq : K → K �
 
   -- `ChunkBy`'s contract. Its condition: one of the source, a bound of it, and that the closure may be called on what comes.
   abbrev pub chunk_by_contract : {S : Type 0} → Contract S A E → Contract (S × ((Option (Group K A) × F) × Option (Option E))) (Group K A) E
-  chunk_by_contract m = closure_contract (bounded m) stop_comes puts_by_key (takes_key g) (chunk_by_plan eq) chunk_by_stops 1 held_one (held_hints held_one)
+  chunk_by_contract m = closure_contract (bounded m) stop_comes puts_by_key (takes_key g) (chunk_by_plan eq) chunk_by_stops 1 held_one (held_hint_plan held_one)
 
 -- ---- what it lists
 

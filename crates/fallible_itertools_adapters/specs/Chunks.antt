@@ -58,8 +58,8 @@ begun n room k = cond (leb k room) 0 (1 + (k - 1 - room) / max n 1)
 abbrev pub batches_hint : {A : Type 0} → ℕ × Option (Vec A Global) → ℕ × Option ℕ → ℕ × Option ℕ
 batches_hint h k = (held_one h.1 + begun h.0 (room_left h.0 h.1) k.0, fitting_sum k.1 (Some (held_one h.1)))
 
-abbrev pub chunks_hints : {A E : Type 0} → ℕ × Option (Vec A Global) → Option (Option E) → HintPlan
-chunks_hints h due = hint_unless_end (calls tt (batches_hint h)) due
+abbrev pub chunks_hint_plan : {A E : Type 0} → ℕ × Option (Vec A Global) → Option (Option E) → HintPlan
+chunks_hint_plan h due = hint_unless_end (calls tt (batches_hint h)) due
 
 -- ---- its contract and its trace
 
@@ -74,7 +74,7 @@ module _ {A E : Type 0} (from : AllocError → E → Type 0) where
 
   -- `Chunks`' contract. It requires no bound of the source: one draw leaves out fewer items than a batch has.
   abbrev pub chunks_contract : {S : Type 0} → Contract S A E → Contract (S × (((ℕ × Option (Vec A Global)) × Unit {0}) × Option (Option E))) (Vec A Global) E
-  chunks_contract m = plan_contract m stop_comes puts (chunks_plan vec_count) chunks_stops 1 batch_held chunks_hints
+  chunks_contract m = plan_contract m stop_comes puts (chunks_plan vec_count) chunks_stops 1 batch_held chunks_hint_plan
 
 -- ---- what it lists
 

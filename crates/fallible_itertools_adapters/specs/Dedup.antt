@@ -2,7 +2,7 @@
 use Rattle.std.specs.Prelude.{Bool, true, false, Option, Some, None, Result, List}
 use Rattle.fallible_iterator.specs.Traces.{Answered, item}
 use Rattle.fallible_iterator.specs.Contract.{Contract, Inverse}
-use Rattle.fallible_itertools_adapters.specs.BeforeStop.{before_stop, held_hints, held_one}
+use Rattle.fallible_itertools_adapters.specs.BeforeStop.{before_stop, held_hint_plan, held_one}
 use Rattle.fallible_itertools_adapters.specs.Plan.{Transition, Plan, bounded, calls_nothing, makes, plan_contract, plan_meets}
 use Rattle.fallible_itertools_adapters.specs.Staged.{as_function, plan_does, staged}
 use Rattle.fallible_itertools_adapters.specs.Staging.{StagedTrace, one_emitted, stop_comes}
@@ -30,7 +30,7 @@ module _ {A : Type 0} (eq : A → A → Bool) where
 
   -- `Dedup`'s contract
   abbrev pub dedup_contract : {S E : Type 0} → Contract S A E → Contract (S × ((Option A × Unit {0}) × Option (Option E))) A E
-  dedup_contract m = plan_contract (bounded m) stop_comes calls_nothing dedup_plan dedup_stops 1 held_one (held_hints held_one)
+  dedup_contract m = plan_contract (bounded m) stop_comes calls_nothing dedup_plan dedup_stops 1 held_one (held_hint_plan held_one)
 
   -- the first of adjacent equal items; a failure parts them
   unfoldable pub deduped : {E : Type 0} → List (Result A E) → List (Result A E)

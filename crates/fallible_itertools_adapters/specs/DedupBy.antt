@@ -5,7 +5,7 @@ use Rattle.std.specs.Borrow.{Bor}
 use Rattle.fallible_iterator.specs.Traces.{Answered}
 use Rattle.fallible_iterator.specs.Contract.{Contract, Inverse}
 use Rattle.fallible_iterator.specs.Picking.{call_at_two, takes_at_two}
-use Rattle.fallible_itertools_adapters.specs.BeforeStop.{held_hints, held_one}
+use Rattle.fallible_itertools_adapters.specs.BeforeStop.{held_hint_plan, held_one}
 use Rattle.fallible_itertools_adapters.specs.Dedup.{dedup_stops, unless_same}
 use Rattle.fallible_itertools_adapters.specs.Plan.{Transition, Plan, bounded, calls, closure_contract, makes, plan_meets}
 use Rattle.fallible_itertools_adapters.specs.Staged.{as_function, plan_does, staged}
@@ -37,7 +37,7 @@ module _ {A F E : Type 0} (g : Mut F (Bor A × (Bor A × Unit {0})) (Result Bool
 
   -- `DedupBy`'s contract
   abbrev pub dedup_by_contract : {S : Type 0} → Contract S A E → Contract (S × ((Option A × F) × Option (Option E))) A E
-  dedup_by_contract m = closure_contract (bounded m) stop_comes same_call same_takes dedup_by_plan dedup_stops 1 held_one (held_hints held_one)
+  dedup_by_contract m = closure_contract (bounded m) stop_comes same_call same_takes dedup_by_plan dedup_stops 1 held_one (held_hint_plan held_one)
 
 -- the source
 abbrev pub dedup_by_source : {I A E F : Type 0} → DedupBy I F A E → I

@@ -4,7 +4,7 @@ use Rattle.std.specs.Fn.{Mut}
 use Rattle.std.specs.Borrow.{Bor}
 use Rattle.fallible_iterator.specs.Traces.{Answered}
 use Rattle.fallible_iterator.specs.Contract.{Contract, Inverse}
-use Rattle.fallible_itertools_adapters.specs.BeforeStop.{held_hints, held_one}
+use Rattle.fallible_itertools_adapters.specs.BeforeStop.{held_hint_plan, held_one}
 use Rattle.fallible_itertools_adapters.specs.DedupBy.{same_call, same_takes}
 use Rattle.fallible_itertools_adapters.specs.Plan.{bounded, closure_contract, plan_meets}
 use Rattle.fallible_itertools_adapters.specs.RunCounts.{count_plan, count_stops}
@@ -19,7 +19,7 @@ module _ {A F E : Type 0} (g : Mut F (Bor A × (Bor A × Unit {0})) (Result Bool
 
   -- `DedupByWithCount`'s contract: the closure may be called on references to what is held and each item that may come.
   abbrev pub dedup_by_with_count_contract : {S : Type 0} → Contract S A E → Contract (S × ((Option (ℕ × A) × F) × Option (Option E))) (ℕ × A) E
-  dedup_by_with_count_contract m = closure_contract (bounded m) stop_comes (same_call g) (same_takes g) count_plan count_stops 1 held_one (held_hints held_one)
+  dedup_by_with_count_contract m = closure_contract (bounded m) stop_comes (same_call g) (same_takes g) count_plan count_stops 1 held_one (held_hint_plan held_one)
 
 -- the source
 abbrev pub dedup_by_with_count_source : {I A E F : Type 0} → DedupByWithCount I F A E → I

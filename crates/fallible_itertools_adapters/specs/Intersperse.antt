@@ -48,8 +48,8 @@ abbrev pub intersperse_hint : {A : Type 0} → Bool → Option A → ℕ × Opti
 intersperse_hint came due h = (min (interspersed_items came due h.0) (2 ^ 64 - 1), interspersed_high came due h.1)
 
 -- it is made of the source's
-abbrev pub intersperse_hints : {A : Type 0} → Bool → Option A → HintPlan
-intersperse_hints came due = calls tt (intersperse_hint came due)
+abbrev pub intersperse_hint_plan : {A : Type 0} → Bool → Option A → HintPlan
+intersperse_hint_plan came due = calls tt (intersperse_hint came due)
 
 -- ---- `Intersperse`
 
@@ -65,7 +65,7 @@ module _ {A E : Type 0} (is_clone : A → A → Type 0) (is_infallible : A → T
 
   -- `Intersperse`'s contract: an item of the source is two to come.
   abbrev pub intersperse_contract : {S : Type 0} → Contract S A E → Contract (S × ((Bool × A) × Option A)) A E
-  intersperse_contract m = plan_contract m item_comes separator_cloned intersperse_plan passes 2 none_held intersperse_hints
+  intersperse_contract m = plan_contract m item_comes separator_cloned intersperse_plan passes 2 none_held intersperse_hint_plan
 
 -- the source
 abbrev pub intersperse_source : {I A E : Type 0} → Intersperse I A E → I

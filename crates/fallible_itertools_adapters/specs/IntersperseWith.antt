@@ -4,7 +4,7 @@ use Rattle.std.specs.Fn.{Mut}
 use Rattle.fallible_iterator.specs.Traces.{Answered}
 use Rattle.fallible_iterator.specs.Contract.{Contract, Inverse}
 use Rattle.fallible_iterator.specs.Sources.FromFn.{call_of_none}
-use Rattle.fallible_itertools_adapters.specs.Intersperse.{intersperse_hints, intersperse_plan}
+use Rattle.fallible_itertools_adapters.specs.Intersperse.{intersperse_hint_plan, intersperse_plan}
 use Rattle.fallible_itertools_adapters.specs.Plan.{closure_contract, none_held, passes, plan_meets}
 use Rattle.fallible_itertools_adapters.specs.Staging.{StagedTrace, item_comes}
 use Rattle.fallible_itertools_adapters.specs.declared.intersperse_with.IntersperseWith.{IntersperseWith}
@@ -21,7 +21,7 @@ module _ {F A E : Type 0} (g : Mut F (Unit {0}) (Result A E)) where
 
   -- `IntersperseWith`'s contract: an item of the source is two to come. The closure may be called wherever items that may come bring it.
   abbrev pub intersperse_with_contract : {S : Type 0} → Contract S A E → Contract (S × ((Bool × F) × Option A)) A E
-  intersperse_with_contract m = closure_contract m item_comes (call_of_none g) takes_none intersperse_plan passes 2 none_held intersperse_hints
+  intersperse_with_contract m = closure_contract m item_comes (call_of_none g) takes_none intersperse_plan passes 2 none_held intersperse_hint_plan
 
 -- the source
 abbrev pub intersperse_with_source : {I A E F : Type 0} → IntersperseWith I F A E → I

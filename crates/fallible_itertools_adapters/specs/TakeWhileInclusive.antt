@@ -26,9 +26,9 @@ abbrev pub hint_of_first : ℕ × Option ℕ → ℕ × Option ℕ
 hint_of_first k = (min k.0 1, k.1)
 
 -- Until an item was rejected the hint has the source's upper bound, and 1 below if the source has an item for certain: the first one comes, whatever the predicate says of it, or its failure. Then no item comes.
-abbrev pub inclusive_hint : Unit {0} → Option (Unit {0}) → HintPlan
-inclusive_hint u None = calls tt hint_of_first
-inclusive_hint u (Some over) = makes (0, Some 0)
+abbrev pub inclusive_hint_plan : Unit {0} → Option (Unit {0}) → HintPlan
+inclusive_hint_plan u None = calls tt hint_of_first
+inclusive_hint_plan u (Some over) = makes (0, Some 0)
 
 -- `TakeWhileInclusive`: the source's trace with the predicate called on each item, in which an item is replaced by the predicate's failure on it, up to and with the first rejected item, and then ends without draws. The parts are the source, the predicate, and whether ends are due.
 abbrev pub InclusiveTrace : {S F A E : Type 0} → Mut F (Bor A × Unit {0}) (Result Bool E) → (S → List (Answered A E) → S → Type 0) → S × ((Unit {0} × F) × Option (Unit {0})) → List (Answered A E) → S × ((Unit {0} × F) × Option (Unit {0})) → Type 0
@@ -36,7 +36,7 @@ InclusiveTrace g traces p trace q = StagedTrace traces ends_come (plan_meets (ca
 
 -- `TakeWhileInclusive`'s contract: the predicate may be called on each item that may come.
 abbrev pub inclusive_contract : {S F A E : Type 0} → Mut F (Bor A × Unit {0}) (Result Bool E) → Contract S A E → Contract (S × ((Unit {0} × F) × Option (Unit {0}))) A E
-inclusive_contract g m = closure_contract m ends_come (call_by_reference g) (takes_by_reference g) inclusive_plan passes 1 none_held inclusive_hint
+inclusive_contract g m = closure_contract m ends_come (call_by_reference g) (takes_by_reference g) inclusive_plan passes 1 none_held inclusive_hint_plan
 
 -- the source
 abbrev pub inclusive_source : {I P : Type 0} → TakeWhileInclusive I P → I

@@ -37,8 +37,8 @@ abbrev pub position_stops : {A E : Type 0} → Option (Bool × A) → Option E �
 position_stops held stop = (before_stop (positioned_last held) stop, None)
 
 -- None if an end is due, and otherwise the source's hint and the item that is held, since every item is yielded.
-abbrev pub position_hint : {A E : Type 0} → Option (Bool × A) → Option (Option E) → HintPlan
-position_hint held due = hint_unless_end (calls tt (λ k. hint_sum k (held_one held, Some (held_one held)))) due
+abbrev pub position_hint_plan : {A E : Type 0} → Option (Bool × A) → Option (Option E) → HintPlan
+position_hint_plan held due = hint_unless_end (calls tt (λ k. hint_sum k (held_one held, Some (held_one held)))) due
 
 -- `WithPosition`: each item with its position, where the next item stands or a stop.
 abbrev pub WithPositionTrace : {S A E : Type 0} → (S → List (Answered A E) → S → Type 0) → S × ((Option (Bool × A) × Unit {0}) × Option (Option E)) → List (Answered (Position × A) E) → S × ((Option (Bool × A) × Unit {0}) × Option (Option E)) → Type 0
@@ -46,7 +46,7 @@ WithPositionTrace traces p trace q = StagedTrace traces stop_comes (plan_meets c
 
 -- `WithPosition`'s contract. It requires no bound of the source: one draw leaves out one item at most.
 abbrev pub with_position_contract : {S A E : Type 0} → Contract S A E → Contract (S × ((Option (Bool × A) × Unit {0}) × Option (Option E))) (Position × A) E
-with_position_contract m = plan_contract m stop_comes calls_nothing position_plan position_stops 1 held_one position_hint
+with_position_contract m = plan_contract m stop_comes calls_nothing position_plan position_stops 1 held_one position_hint_plan
 
 -- each item with its position among the items there; a failure parts them
 unfoldable pub positioned : {A E : Type 0} → List (Result A E) → List (Result (Position × A) E)

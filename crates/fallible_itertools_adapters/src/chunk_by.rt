@@ -12,7 +12,8 @@ ghost use Rattle.fallible_itertools_adapters.specs.Plan.{IsTransition, plan_item
 ghost use Rattle.fallible_itertools_adapters.specs.Staging.{stop_comes};
 
 use crate::staging::{
-    AnswerAndDue, Emitted, Stage, Stop, drive_stage, let_go, next_until, one, stopped, with_held,
+    AnswerAndDue, Emitted, Stage, Stop, drive_stage, let_go, next_until, one, stop_answer,
+    with_held,
 };
 use fallible_iterator::extending::{alone, pushed};
 use fallible_iterator::{FallibleIterator, Turn};
@@ -140,7 +141,7 @@ impl<X: Drop, K: PartialEq + Drop, E: From<AllocError>, F: FnMut(&X) -> Result<K
 
     #[inline(always)]
     fn answer_due(&self, due: Stop<E>) -> AnswerAndDue<(K, Vec<X>), Stop<E>, E> {
-        (stopped(due), None)
+        (stop_answer(due), None)
     }
 
     ghost is_stage = { λ _. is_stage_chunk_by E.from_gives K.eq F.FnMut };

@@ -10,7 +10,7 @@ ghost use Rattle.fallible_itertools_adapters.specs.Plan.{plan_item, plan_meets, 
 ghost use Rattle.fallible_itertools_adapters.specs.Staging.{DrawsUpTo, stop_comes};
 
 use crate::staging::{
-    AnswerAndDue, Emitted, Stage, Stop, drive_stage, emitted_of, let_go, one, put_due, stopped,
+    AnswerAndDue, Emitted, Stage, Stop, drive_stage, emitted_of, let_go, one, put_due, stop_answer,
     with_held,
 };
 use fallible_iterator::extending::{alone, pushed};
@@ -56,7 +56,7 @@ where
     /// Returns the stop that is due, without a draw. Otherwise it draws until the batch has n items, or a stop comes.
     fn next(&mut self) -> Result<Option<Vec<I::Item>>, I::Error> {
         match self.stage.1.take() {
-            Some(stop) => stopped(stop),
+            Some(stop) => stop_answer(stop),
             None => {
                 let adapter = ChunksStage { alloc: self.alloc };
                 let (answer, due) = filled(&mut self.it, &mut self.stage.0, &adapter);
@@ -170,7 +170,7 @@ impl<X: Drop, E: From<AllocError>> Stage<((usize, Option<Vec<X>>), ()), X, E> fo
 
     #[inline(always)]
     fn answer_due(&self, due: Stop<E>) -> AnswerAndDue<Vec<X>, Stop<E>, E> {
-        (stopped(due), None)
+        (stop_answer(due), None)
     }
 
     ghost is_stage = { λ _. is_stage_chunks E.from_gives };

@@ -9,8 +9,8 @@ ghost use Rattle.fallible_itertools_adapters.specs.Plan.{calls_nothing, plan_ite
 ghost use Rattle.fallible_itertools_adapters.specs.Staging.{stop_comes};
 
 use crate::staging::{
-    AnswerAndDue, Emitted, Stage, Stop, drawn_until, drive_stage, let_go, one, put_due, stopped,
-    with_held,
+    AnswerAndDue, Emitted, Stage, Stop, drawn_until, drive_stage, let_go, one, put_due,
+    stop_answer, with_held,
 };
 use fallible_iterator::{FallibleIterator, Turn};
 
@@ -49,7 +49,7 @@ where
     /// Returns the stop that is due, without a draw. Otherwise it draws until an item differs from the buffered one, or a stop comes.
     fn next(&mut self) -> Result<Option<I::Item>, I::Error> {
         match self.stage.1.take() {
-            Some(stop) => stopped(stop),
+            Some(stop) => stop_answer(stop),
             None => {
                 // in a local, so that a compiler keeps it in a register
                 let mut held = (self.stage.0.0.take(), ());
@@ -128,7 +128,7 @@ impl<X: PartialEq + Drop, E> Stage<(Option<X>, ()), X, E> for DedupStage {
 
     #[inline(always)]
     fn answer_due(&self, due: Stop<E>) -> AnswerAndDue<X, Stop<E>, E> {
-        (stopped(due), None)
+        (stop_answer(due), None)
     }
 
     ghost is_stage = { λ _. is_stage_dedup X.eq };

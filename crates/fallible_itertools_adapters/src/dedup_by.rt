@@ -10,7 +10,8 @@ ghost use Rattle.fallible_itertools_adapters.specs.Plan.{IsTransition, plan_item
 ghost use Rattle.fallible_itertools_adapters.specs.Staging.{stop_comes};
 
 use crate::staging::{
-    AnswerAndDue, Emitted, Stage, Stop, drive_stage, let_go, next_until, one, stopped, with_held,
+    AnswerAndDue, Emitted, Stage, Stop, drive_stage, let_go, next_until, one, stop_answer,
+    with_held,
 };
 use fallible_iterator::{FallibleIterator, Turn};
 
@@ -119,7 +120,7 @@ impl<X: Drop, E, F: FnMut(&X, &X) -> Result<bool, E>> Stage<(Option<X>, F), X, E
 
     #[inline(always)]
     fn answer_due(&self, due: Stop<E>) -> AnswerAndDue<X, Stop<E>, E> {
-        (stopped(due), None)
+        (stop_answer(due), None)
     }
 
     ghost is_stage = { λ _. is_stage_dedup_by (same_call F.FnMut) };

@@ -11,7 +11,8 @@ ghost use Rattle.fallible_itertools_adapters.specs.RunCounts.{count_plan, count_
 ghost use Rattle.fallible_itertools_adapters.specs.Staging.{stop_comes};
 
 use crate::staging::{
-    AnswerAndDue, Emitted, Stage, Stop, drive_stage, let_go, next_until, one, stopped, with_held,
+    AnswerAndDue, Emitted, Stage, Stop, drive_stage, let_go, next_until, one, stop_answer,
+    with_held,
 };
 use fallible_iterator::{FallibleIterator, Turn};
 
@@ -128,7 +129,7 @@ impl<X: Drop, E, F: FnMut(&X, &X) -> Result<bool, E>> Stage<(Option<(usize, X)>,
 
     #[inline(always)]
     fn answer_due(&self, due: Stop<E>) -> AnswerAndDue<(usize, X), Stop<E>, E> {
-        (stopped(due), None)
+        (stop_answer(due), None)
     }
 
     ghost is_stage = { λ _. is_stage_count (same_call F.FnMut) };

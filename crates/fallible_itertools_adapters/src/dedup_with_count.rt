@@ -11,8 +11,8 @@ ghost use Rattle.fallible_itertools_adapters.specs.Staged.{calls_function};
 ghost use Rattle.fallible_itertools_adapters.specs.Staging.{stop_comes};
 
 use crate::staging::{
-    AnswerAndDue, Emitted, Stage, Stop, drawn_until, drive_stage, let_go, one, put_due, stopped,
-    with_held,
+    AnswerAndDue, Emitted, Stage, Stop, drawn_until, drive_stage, let_go, one, put_due,
+    stop_answer, with_held,
 };
 use fallible_iterator::{FallibleIterator, Turn};
 
@@ -51,7 +51,7 @@ where
     /// Returns the stop that is due, without a draw. Otherwise it draws until an item differs from the buffered one, or a stop comes.
     fn next(&mut self) -> Result<Option<(usize, I::Item)>, I::Error> {
         match self.stage.1.take() {
-            Some(stop) => stopped(stop),
+            Some(stop) => stop_answer(stop),
             None => {
                 // in a local, so that a compiler keeps it in registers
                 let mut held = (self.stage.0.0.take(), ());
@@ -138,7 +138,7 @@ impl<X: PartialEq + Drop, E> Stage<(Option<(usize, X)>, ()), X, E> for EqualCoun
 
     #[inline(always)]
     fn answer_due(&self, due: Stop<E>) -> AnswerAndDue<(usize, X), Stop<E>, E> {
-        (stopped(due), None)
+        (stop_answer(due), None)
     }
 
     ghost is_stage = { λ _. is_stage_count (calls_function (are_equal X.eq)) };

@@ -9,7 +9,7 @@ ghost use Rattle.fallible_itertools_adapters.specs.Plan.{none_held, passes, plan
 ghost use Rattle.fallible_itertools_adapters.specs.Staging.{item_comes, emitted_then};
 
 use crate::staging::{
-    AnswerAndDue, Emitted, Stage, Stop, drive_stage, next_stage, one, one_then, stopped,
+    AnswerAndDue, Emitted, Stage, Stop, drive_stage, next_stage, one, one_then, stop_answer,
 };
 use fallible_iterator::{FallibleIterator, Turn};
 use std::alloc::AllocError;
@@ -115,7 +115,7 @@ impl<X: Clone + Drop, E: From<AllocError>> Stage<(bool, X), X, E> for SeparatorC
         ensures { plan_stop (separator_cloned X.is_clone X.is_infallible E.from_gives) intersperse_plan
             passes _p.old stop result _p.new }
     {
-        one(stopped(stop))
+        one(stop_answer(stop))
     }
 
     #[inline(always)]

@@ -10,7 +10,9 @@ ghost use Rattle.fallible_itertools_adapters.specs.Plan.{none_held, passes, plan
 ghost use Rattle.fallible_itertools_adapters.specs.Staging.{item_comes};
 
 use crate::intersperse::{hint_parting, separated};
-use crate::staging::{AnswerAndDue, Emitted, Stage, Stop, drive_stage, next_stage, one, stopped};
+use crate::staging::{
+    AnswerAndDue, Emitted, Stage, Stop, drive_stage, next_stage, one, stop_answer,
+};
 use fallible_iterator::{FallibleIterator, Turn};
 
 /// The items of the source with what the closure returns between each two adjacent ones. An item that was drawn is buffered while the separator before it is yielded.
@@ -108,7 +110,7 @@ impl<X, E, F: FnMut() -> Result<X, E>> Stage<(bool, F), X, E> for SeparatorCall 
     fn on_stop(&self, _p: &mut (bool, F), stop: Stop<E>) -> Emitted<X, X, E>
         ensures { plan_stop (call_of_none F.FnMut) intersperse_plan passes _p.old stop result _p.new }
     {
-        one(stopped(stop))
+        one(stop_answer(stop))
     }
 
     #[inline(always)]

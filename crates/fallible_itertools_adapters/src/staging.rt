@@ -38,7 +38,7 @@ pub fn one_then<B, D, E>(answer: Result<Option<B>, E>, due: D) -> Emitted<B, D, 
 
 /// A stop as an answer.
 #[inline(always)]
-pub fn stopped<B, E>(stop: Stop<E>) -> Result<Option<B>, E>
+pub fn stop_answer<B, E>(stop: Stop<E>) -> Result<Option<B>, E>
     ensures { result ≡ stop_answer stop }
 {
     match stop {
@@ -54,7 +54,7 @@ pub fn let_go<B, E>(held: Option<B>, stop: Stop<E>) -> Emitted<B, Stop<E>, E>
 {
     match held {
         Some(y) => one_then(Ok(Some(y)), stop),
-        None => one(stopped(stop)),
+        None => one(stop_answer(stop)),
     }
 }
 

@@ -9,7 +9,7 @@ ghost use Rattle.fallible_itertools_adapters.specs.Staging.{ends_come};
 ghost use Rattle.fallible_itertools_adapters.specs.TakeWhileInclusive.{inclusive_contract, inclusive_made, inclusive_parts, inclusive_plan};
 
 use crate::staging::{
-    AnswerAndDue, Emitted, Stage, Stop, drive_stage, next_stage, one, one_then, stopped,
+    AnswerAndDue, Emitted, Stage, Stop, drive_stage, next_stage, one, one_then, stop_answer,
 };
 use fallible_iterator::{FallibleIterator, Turn};
 
@@ -110,7 +110,7 @@ impl<X: Drop, E, P: FnMut(&X) -> Result<bool, E>> Stage<((), P), X, E> for Inclu
     fn on_stop(&self, _p: &mut ((), P), stop: Stop<E>) -> Emitted<X, (), E>
         ensures { plan_stop (call_by_reference P.FnMut) inclusive_plan passes _p.old stop result _p.new }
     {
-        one(stopped(stop))
+        one(stop_answer(stop))
     }
 
     #[inline(always)]

@@ -9,7 +9,7 @@ ghost use Rattle.fallible_itertools_adapters.specs.Staging.{stop_comes};
 ghost use Rattle.fallible_itertools_adapters.specs.WithPosition.{position_before_item, position_before_stop, position_plan, position_stops, positioned_last, with_position_contract, with_position_made, with_position_parts};
 
 use crate::staging::{
-    AnswerAndDue, Emitted, Stage, Stop, drive_stage, let_go, next_stage, one, stopped,
+    AnswerAndDue, Emitted, Stage, Stop, drive_stage, let_go, next_stage, one, stop_answer,
 };
 use fallible_iterator::extending::sum;
 use fallible_iterator::{FallibleIterator, Turn};
@@ -63,7 +63,7 @@ where
     /// Returns the stop that is due, without a draw. Otherwise it draws once if an item is buffered, and otherwise twice, or up to a stop.
     fn next(&mut self) -> Result<Option<(Position, I::Item)>, I::Error> {
         match self.stage.1.take() {
-            Some(stop) => stopped(stop),
+            Some(stop) => stop_answer(stop),
             None => match &self.stage.0.0 {
                 Some(_) => next_stage(&mut self.it, &mut self.stage, &PositionStage),
                 None => match self.it.draw() {
@@ -149,7 +149,7 @@ impl<X: Drop, E> Stage<(Option<(bool, X)>, ()), X, E> for PositionStage {
 
     #[inline(always)]
     fn answer_due(&self, due: Stop<E>) -> AnswerAndDue<(Position, X), Stop<E>, E> {
-        (stopped(due), None)
+        (stop_answer(due), None)
     }
 
     ghost is_stage = { λ _. is_stage_position };

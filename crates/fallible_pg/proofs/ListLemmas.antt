@@ -8,16 +8,16 @@ use Rattle.fallible_pg.specs.declared.fault.Damage.{Damage}
 use Rattle.fallible_pg.specs.declared.fault.PgFault.{PgFault}
 use Rattle.fallible_pg.specs.declared.fault.PgFault.TheVariants.{Damaged}
 
-abbrev pub Listed : Type 0
-Listed = List (Result (List ℕ) PgFault)
+abbrev pub ListedMessages : Type 0
+ListedMessages = List (Result (List ℕ) PgFault)
 
 messages_in-none : (k place : ℕ) → messages_in k place [] ≡ []
 unfolding messages_in
 messages_in-none zero place = refl
 messages_in-none (suc k) place = refl
 
-messages_at-alike : (size : Result ℕ Damage) (place : ℕ) (bytes : List ℕ) (f g : ℕ → List ℕ → Listed) → ((n : ℕ) → size ≡ Ok n → f (place + n) (drop n bytes) ≡ g (place + n) (drop n bytes)) → messages_at size place bytes f ≡ messages_at size place bytes g
-messages_at-alike (Ok n) place bytes f g same = ap {B = Listed} (λ l. Ok (take n bytes) ∷ l) (same n refl)
+messages_at-alike : (size : Result ℕ Damage) (place : ℕ) (bytes : List ℕ) (f g : ℕ → List ℕ → ListedMessages) → ((n : ℕ) → size ≡ Ok n → f (place + n) (drop n bytes) ≡ g (place + n) (drop n bytes)) → messages_at size place bytes f ≡ messages_at size place bytes g
+messages_at-alike (Ok n) place bytes f g same = ap {B = ListedMessages} (λ l. Ok (take n bytes) ∷ l) (same n refl)
 messages_at-alike (Err damage) place bytes f g same = refl
 
 -- where two bounds on the steps are large enough, the same comes
@@ -54,8 +54,8 @@ messages_of-message place m rest is =
     let long = length-append m rest in
     messages_of-step place all (omega (arith, long, five))
     ∙ ap (λ (s : Result ℕ Damage). messages_at s place all (messages_in (length all))) (first_size-message m rest is)
-    ∙ ap {B = Listed} (λ l. Ok l ∷ messages_in (length all) (place + length m) (drop (length m) all)) front
-    ∙ ap {B = Listed} (λ l. Ok m ∷ l) (ap (messages_in (length all) (place + length m)) is_rest ∙ messages_in-alike (length all) (length rest) (place + length m) rest (omega (arith, long)) (omega arith))
+    ∙ ap {B = ListedMessages} (λ l. Ok l ∷ messages_in (length all) (place + length m) (drop (length m) all)) front
+    ∙ ap {B = ListedMessages} (λ l. Ok m ∷ l) (ap (messages_in (length all) (place + length m)) is_rest ∙ messages_in-alike (length all) (length rest) (place + length m) rest (omega (arith, long)) (omega arith))
 
 pub messages_of-damage : (place : ℕ) (bytes : List ℕ) (damage : Damage) → 1 ≤ length bytes → first_size bytes ≡ Err damage → messages_of place bytes ≡ Err (Damaged place damage) ∷ []
 messages_of-damage place bytes damage some is = messages_of-step place bytes some ∙ ap (λ (s : Result ℕ Damage). messages_at s place bytes (messages_in (length bytes))) is

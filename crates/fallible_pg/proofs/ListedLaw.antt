@@ -3,11 +3,11 @@ use Rattle.std.proofs.Common.{◌≡◌, ℕ, zero, suc, ◌+◌, ◌^◌, ◌<�
 use Rattle.program_io.specs.Bytes.{GivesBytes, NoReadFails}
 use Rattle.fallible_iterator.specs.Making.{IsMadeOf, AtRefusal, GivesMade, ListsMade}
 use Rattle.fallible_iterator.specs.Traces.{Answered, end}
-use Rattle.fallible_pg.specs.Listed.{messages_at, messages_in, messages_of, HasBytes, IsMemory}
+use Rattle.fallible_pg.specs.Listed.{messages_at, messages_in, messages_of, HasBytes, BecomesMemory}
 use Rattle.fallible_pg.specs.Messages.{message_bytes}
 use Rattle.fallible_pg.specs.Reading.{messages_parts, message_step, TellsWhy}
 use Rattle.fallible_pg.specs.Sizes.{first_size}
-use Rattle.fallible_pg.proofs.ListLemmas.{Listed, messages_of-none, messages_of-step, messages_of-message, messages_of-damage}
+use Rattle.fallible_pg.proofs.ListLemmas.{ListedMessages, messages_of-none, messages_of-step, messages_of-message, messages_of-damage}
 use Rattle.fallible_pg.proofs.TurnLaw.{known_left, consumes_given, none_left, size_broken, some_broken, some_came}
 use Rattle.fallible_pg.specs.declared.fault.Damage.{Damage}
 use Rattle.fallible_pg.specs.declared.fault.PgFault.{PgFault}
@@ -20,17 +20,17 @@ module _ {R : Type 0} (left : R → Option (List ℕ)) (stays : Bool → R → R
   steps s answer t = message_step left stays no_room (messages_parts s) answer (messages_parts t)
 
   abbrev Refuses : Answered Message PgFault → Messages R → Type 0
-  Refuses answer t = AtRefusal HasBytes steps IsMemory answer t
+  Refuses answer t = AtRefusal HasBytes steps BecomesMemory answer t
 
-  abbrev Gives : Messages R → Listed → Type 0
-  Gives s l = GivesMade HasBytes steps IsMemory s l
+  abbrev Gives : Messages R → ListedMessages → Type 0
+  Gives s l = GivesMade HasBytes steps BecomesMemory s l
 
   -- one draw of the list
-  abbrev TakesMade : Answered Message PgFault → Messages R → Listed → Type 0
+  abbrev TakesMade : Answered Message PgFault → Messages R → ListedMessages → Type 0
   TakesMade answer t [] = answer ≡ end
   TakesMade answer t (y ∷ l) = Refuses answer t ⊎ (IsMadeOf HasBytes y answer × Gives t l)
 
-  gives_made_by_draws : (s : Messages R) (l : Listed) → ((answer : Answered Message PgFault) (t : Messages R) → steps s answer t → TakesMade answer t l) → Gives s l
+  gives_made_by_draws : (s : Messages R) (l : ListedMessages) → ((answer : Answered Message PgFault) (t : Messages R) → steps s answer t → TakesMade answer t l) → Gives s l
   gives_made_by_draws s [] h = h
   gives_made_by_draws s (y ∷ l) h = h
 
@@ -71,5 +71,5 @@ module _ {R : Type 0} (left : R → Option (List ℕ)) (stays : Bool → R → R
   gives_fewer zero s r place bytes few is known fits = absurd (omega arith)
   gives_fewer (suc n) s r place bytes few is known fits = gives_made_by_draws s (messages_of place bytes) (λ answer t step. takes_made n (gives_fewer n) r t place bytes few known fits answer (subst (λ (p : R × Option ℕ). message_step left stays no_room p answer (messages_parts t)) is step))
 
-  pub lists_messages : {r : R} {place : ℕ} {bytes : List ℕ} (s : Messages R) → messages_parts s ≡ (r, Some place) → left r ≡ Some bytes → place + length bytes ≤ 2 ^ 63 → ListsMade HasBytes steps IsMemory s (messages_of place bytes)
+  pub lists_messages : {r : R} {place : ℕ} {bytes : List ℕ} (s : Messages R) → messages_parts s ≡ (r, Some place) → left r ≡ Some bytes → place + length bytes ≤ 2 ^ 63 → ListsMade HasBytes steps BecomesMemory s (messages_of place bytes)
   lists_messages {r = r} {place = place} {bytes = bytes} s is known fits = record { runs = gives_fewer (suc (length bytes)) s r place bytes (omega arith) is known fits }

@@ -29,5 +29,5 @@ abbrev pub HasBytes : List ℕ → Message → Type 0
 HasBytes bytes m = message_bytes m ≡ bytes
 
 -- an allocation failure is this failure
-abbrev pub IsMemory : AllocError → PgFault → Type 0
-IsMemory refused fault = fault ≡ Memory
+abbrev pub BecomesMemory : AllocError → PgFault → Type 0
+BecomesMemory refused fault = fault ≡ Memory

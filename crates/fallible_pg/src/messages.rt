@@ -5,7 +5,7 @@ ghost use Rattle.fallible_iterator.specs.Laws.Contract.{lawful_seen};
 ghost use Rattle.fallible_iterator.specs.Laws.BoundsRuns.{lawful_unbounded};
 ghost use Rattle.fallible_iterator.specs.Making.{ListsMade};
 ghost use Rattle.program_io.specs.Bytes.{NoReadFails};
-ghost use Rattle.fallible_pg.specs.Listed.{messages_of, HasBytes, IsMemory};
+ghost use Rattle.fallible_pg.specs.Listed.{messages_of, HasBytes, BecomesMemory};
 ghost use Rattle.fallible_pg.specs.Reading.{messages_parts, message_step, place_of};
 
 use crate::fault::PgFault;
@@ -38,7 +38,7 @@ impl<R: ReadMessage> Messages<R> {
             → length bytes ≤ 2 ^ 63
             → ListsMade HasBytes
             (seen_as messages_parts (unbounded_contract (message_step R.left R.stays R.no_room))).steps
-            IsMemory result (messages_of 0 bytes) }
+            BecomesMemory result (messages_of 0 bytes) }
     {
         Messages {
             alloc,

@@ -36,7 +36,7 @@ pub trait Hash {
 }
 
 // Texts one after the other.
-fn joined(alloc: Global, a: &[u8], b: &[u8], c: &[u8]) -> Result<Vec<u8>, Unsent>
+fn concatenated(alloc: Global, a: &[u8], b: &[u8], c: &[u8]) -> Result<Vec<u8>, Unsent>
     ensures { IfOk result (λ text. vec_items text ≡ a.now ++ b.now ++ c.now) }
 {
     let mut text = Vec::new(alloc);
@@ -50,12 +50,12 @@ fn joined(alloc: Global, a: &[u8], b: &[u8], c: &[u8]) -> Result<Vec<u8>, Unsent
 pub fn scram_first_message(alloc: Global, nonce: &[u8]) -> Result<Vec<u8>, Unsent>
     ensures { IfOk result (λ sent. vec_items sent ≡ sent_first nonce.now) }
 {
-    let words = joined(alloc, b"n,,", b"n=,r=", nonce)?;
+    let words = concatenated(alloc, b"n,,", b"n=,r=", nonce)?;
     if words.len() > 1_073_741_800 {
         return Err(Unsent::Long);
     }
     let size = (words.len() as u32).to_be_bytes();
-    let body = joined(alloc, b"SCRAM-SHA-256\0", &size, &words)?;
+    let body = concatenated(alloc, b"SCRAM-SHA-256\0", &size, &words)?;
     message_of(alloc, b"p", &body)
 }
 
@@ -105,9 +105,9 @@ fn has_parts(alloc: Global, asked: &[u8], parts: Question<'_>) -> Result<bool, U
         (codes "r=" ++ parts.entry.nonce.now ++ codes ",s=" ++ parts.entry.salt.now ++ codes ",i="
         ++ parts.entry.digits.now) asked.now) }
 {
-    let last = joined(alloc, parts.salt, b",i=", parts.digits)?;
-    let rest = joined(alloc, parts.nonce, b",s=", last.as_slice())?;
-    let text = joined(alloc, b"r", b"=", rest.as_slice())?;
+    let last = concatenated(alloc, parts.salt, b",i=", parts.digits)?;
+    let rest = concatenated(alloc, parts.nonce, b",s=", last.as_slice())?;
+    let text = concatenated(alloc, b"r", b"=", rest.as_slice())?;
     Ok(text.as_slice() == asked)
 }
 
@@ -145,9 +145,9 @@ fn xored(alloc: Global, a: &[u8], b: &[u8]) -> Result<Vec<u8>, Unsent>
 fn said_words(alloc: Global, own: &[u8], asked: &[u8], nonce: &[u8]) -> Result<Vec<u8>, Unsent>
     ensures { IfOk result (λ said. vec_items said ≡ said_words own.now asked.now nonce.now) }
 {
-    let first = joined(alloc, b"n=,r=", own, b",")?;
-    let last = joined(alloc, b",", b"c=biws,r=", nonce)?;
-    joined(alloc, &first, asked, &last)
+    let first = concatenated(alloc, b"n=,r=", own, b",")?;
+    let last = concatenated(alloc, b",", b"c=biws,r=", nonce)?;
+    concatenated(alloc, &first, asked, &last)
 }
 
 // What the client answers.
@@ -166,8 +166,8 @@ fn answer_words<H: Hash>(
     let signature = hash.hmac(&stored, said);
     let proof = xored(alloc, &key, &signature)?;
     let text = base64(alloc, &proof)?;
-    let unproved = joined(alloc, b"c=biws,r=", nonce, &[])?;
-    joined(alloc, &unproved, b",p=", &text)
+    let unproved = concatenated(alloc, b"c=biws,r=", nonce, &[])?;
+    concatenated(alloc, &unproved, b",p=", &text)
 }
 
 // What the server says last, where it knows the password too.
@@ -183,7 +183,7 @@ fn last_words<H: Hash>(
     let key = hash.hmac(stretched, b"Server Key");
     let signature = hash.hmac(&key, said);
     let text = base64(alloc, &signature)?;
-    joined(alloc, b"v=", &text, &[])
+    concatenated(alloc, b"v=", &text, &[])
 }
 
 /// A client's answer to what a server asks, and by which words the server proves that it knows the password too.

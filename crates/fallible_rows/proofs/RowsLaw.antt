@@ -32,26 +32,26 @@ row_answers_told place (row ∷ rest) =
     ap {B = RowAnswers} (λ x. x ∷ row_answers (told_place place + 1) rest) (answer_of_number_told place (row_number row)) ∙ ap {B = RowAnswers} (λ l. row_answer place row ∷ l) rests
 
 module _ {B : Type 0} (left : B → Option (List ℕ)) (stays : Bool → B → B → Type 0) where
-  abbrev step_of_rows : B × Option Ahead → Answered ℕ RowFault → B × Option Ahead → Type 0
-  step_of_rows = row_step left stays
+  abbrev RowStep : B × Option Ahead → Answered ℕ RowFault → B × Option Ahead → Type 0
+  RowStep = row_step left stays
 
   abbrev StopsReading : B → Ahead → List ℕ → List ℕ → RowAnswers → B × Option Ahead → Type 0
   StopsReading last a closed unclosed trace p = StopsBetween left stays last a closed unclosed trace p ⊎ (StopsAtEnd left stays last a closed unclosed trace p ⊎ StopsAtFailure left stays last a closed unclosed trace p)
 
   -- ---- exhausted
 
-  ends_alone_after_rows : (trace : RowAnswers) (r : B) (o : Option Ahead) (p : B × Option Ahead) → o ≡ None → Run step_of_rows (r, o) trace p → ((n : ℕ) × (trace ≡ replicate n end)) × (p ≡ (r, None))
+  ends_alone_after_rows : (trace : RowAnswers) (r : B) (o : Option Ahead) (p : B × Option Ahead) → o ≡ None → Run RowStep (r, o) trace p → ((n : ℕ) × (trace ≡ replicate n end)) × (p ≡ (r, None))
   ends_alone_after_rows [] r o p is ran = ((0, refl), sym ran ∙ ap (λ u. (r, u)) is)
-  ends_alone_after_rows (x ∷ rest) r None p is ran = let h = ends_alone_after_rows rest r None p refl (subst (λ (u : B × Option Ahead). Run step_of_rows u rest p) ran.1.1 ran.2) in ((suc h.0.0, (λ i. ran.1.0 i ∷ h.0.1 i)), h.1)
+  ends_alone_after_rows (x ∷ rest) r None p is ran = let h = ends_alone_after_rows rest r None p refl (subst (λ (u : B × Option Ahead). Run RowStep u rest p) ran.1.1 ran.2) in ((suc h.0.0, (λ i. ran.1.0 i ∷ h.0.1 i)), h.1)
   ends_alone_after_rows (x ∷ rest) r (Some a) p is ran = absurd cc
 
-  run_of_ends : (n : ℕ) (r : B) → Run step_of_rows (r, None) (replicate n end) (r, None)
+  run_of_ends : (n : ℕ) (r : B) → Run RowStep (r, None) (replicate n end) (r, None)
   run_of_ends zero r = refl
   run_of_ends (suc n) r = ((r, None), (refl, refl), run_of_ends n r)
 
   -- ends after a draw that exhausted them
-  run_of_ends_after : (n : ℕ) (p : B × Option Ahead) → p.1 ≡ None → Run step_of_rows p (replicate n end) p
-  run_of_ends_after n p is = subst (λ (o : Option Ahead). Run step_of_rows (p.0, o) (replicate n end) (p.0, o)) (sym is) (run_of_ends n p.0)
+  run_of_ends_after : (n : ℕ) (p : B × Option Ahead) → p.1 ≡ None → Run RowStep p (replicate n end) p
+  run_of_ends_after n p is = subst (λ (o : Option Ahead). Run RowStep (p.0, o) (replicate n end) (p.0, o)) (sym is) (run_of_ends n p.0)
 
   -- ---- a row before others
 
@@ -156,11 +156,11 @@ module _ {B : Type 0} (left : B → Option (List ℕ)) (stays : Bool → B → B
   reads_rows_at_failure : (r : B) (a : Ahead) (row : List ℕ) (last : B) (n : ℕ) (x : Answered ℕ RowFault) (mid : B × Option Ahead) → IsOneRow row → GivesBytes left stays r row last → EndsByFailure left stays last a row x mid → ReadsRows left stays r a (x ∷ replicate n end) mid
   reads_rows_at_failure r a row last n x mid one given e = reads_rows_in_one_row r a row last (x ∷ replicate n end) mid one given (inr (record { ends = n; missed = e.missed; is_left = e.is_left; answers = ap {B = RowAnswers} (λ y. y ∷ replicate n end) e.answered ∙ ap (λ l. row_answers a.place l ++ failure Read ∷ replicate n end) (sym rows-none) }))
 
-  pub reads_rows_of_run : (trace : RowAnswers) (r : B) (a : Ahead) (p : B × Option Ahead) → a.place ≤ 4294967295 → Run step_of_rows (r, Some a) trace p → ReadsRows left stays r a trace p
+  pub reads_rows_of_run : (trace : RowAnswers) (r : B) (a : Ahead) (p : B × Option Ahead) → a.place ≤ 4294967295 → Run RowStep (r, Some a) trace p → ReadsRows left stays r a trace p
   reads_rows_of_run [] r a p placed ran = reads_rows-none r a p placed ran
   reads_rows_of_run (x ∷ rest) r a p placed ran = let d : DrawsRow left stays r a x ran.0 = ran.1 in elim d.ended [
     | inl e ↦ let next = e.place in
-        let others = reads_rows_of_run rest ran.0.0 e.after p (omega (arith, next)) (subst (λ (o : Option Ahead). Run step_of_rows (ran.0.0, o) rest p) e.is_left ran.2) in
+        let others = reads_rows_of_run rest ran.0.0 e.after p (omega (arith, next)) (subst (λ (o : Option Ahead). Run RowStep (ran.0.0, o) rest p) e.is_left ran.2) in
         subst (λ (y : Answered ℕ RowFault). ReadsRows left stays r a (y ∷ rest) p) (sym e.answered) (reads_rows_with_row_before a e.after d.row d.one e.limit e.place r ran.0.0 d.last rest p d.given e.newline others)
     | inr s ↦ elim s [
       | inl e ↦ let h = ends_alone_after_rows rest ran.0.0 ran.0.1 p e.is_left ran.2 in
@@ -225,33 +225,33 @@ module _ {B : Type 0} (left : B → Option (List ℕ)) (stays : Bool → B → B
   ahead_same_of_parts a b e d = ap (λ (n : ℕ). record { left = n; place = a.place }) e ∙ ap (λ (n : ℕ). record { left = b.left; place = n }) d
 
   -- where no row was closed
-  run_of_last_draw : (r last : B) (a : Ahead) (unclosed : List ℕ) (trace : RowAnswers) (p : B × Option Ahead) → a.place ≤ 4294967295 → GivesBytes left stays r unclosed last → IsOneRow unclosed → StopsReading last a [] unclosed trace p → Run step_of_rows (r, Some a) trace p
+  run_of_last_draw : (r last : B) (a : Ahead) (unclosed : List ℕ) (trace : RowAnswers) (p : B × Option Ahead) → a.place ≤ 4294967295 → GivesBytes left stays r unclosed last → IsOneRow unclosed → StopsReading last a [] unclosed trace p → Run RowStep (r, Some a) trace p
   run_of_last_draw r last a unclosed trace p placed given one (inl s) =
       let none : length (rows []) ≡ 0 = ap length rows-none in
       let e = s.limit in let d = s.place in
       let same : a ≡ s.after = ahead_same_of_parts a s.after (omega (arith, e)) (omega (arith, d, none)) in
       let here : r ≡ last = subst (λ l. GivesBytes left stays r l last) s.none_unclosed given in
       let is : trace ≡ [] = s.answers ∙ ap (row_answers a.place) rows-none in
-      subst (λ (l : RowAnswers). Run step_of_rows (r, Some a) l p) (sym is) (ap (λ (b : B). (b, Some a)) here ∙ ap (λ (b : Ahead). (last, Some b)) same ∙ sym s.is_left)
+      subst (λ (l : RowAnswers). Run RowStep (r, Some a) l p) (sym is) (ap (λ (b : B). (b, Some a)) here ∙ ap (λ (b : Ahead). (last, Some b)) same ∙ sym s.is_left)
   run_of_last_draw r last a [] trace p placed given one (inr (inl s)) = run_from_end s.ends s.answers (s.ended refl)
     where
-      run_from_end : (n : ℕ) → trace ≡ row_answers a.place (rows []) ++ replicate n end → 0 < n → Run step_of_rows (r, Some a) trace p
+      run_from_end : (n : ℕ) → trace ≡ row_answers a.place (rows []) ++ replicate n end → 0 < n → Run RowStep (r, Some a) trace p
       run_from_end zero e some = absurd (omega arith)
       run_from_end (suc n) e some =
           let is : trace ≡ end ∷ replicate n end = e ∙ ap (λ l. row_answers a.place l ++ replicate (suc n) end) rows-none in
           let d : DrawsRow left stays r a end p = record { row = []; one = one; last = last; given = given; ended = inr (inl (record { met_end = s.met_end; limit = s.limit; is_left = s.is_left; answered = inl (refl, refl) })) } in
-          subst (λ (l : RowAnswers). Run step_of_rows (r, Some a) l p) (sym is) (p, d, run_of_ends_after n p s.is_left)
+          subst (λ (l : RowAnswers). Run RowStep (r, Some a) l p) (sym is) (p, d, run_of_ends_after n p s.is_left)
   run_of_last_draw r last a (x ∷ xs) trace p placed given one (inr (inl s)) =
       let some : (x ∷ xs) ≢ [] = λ e. cc in
       let is : trace ≡ row_answer a.place (x ∷ xs) ∷ replicate s.ends end = s.answers ∙ ap (λ l. row_answers a.place l ++ replicate s.ends end) (rows-one (x ∷ xs) one some) in
       let d : DrawsRow left stays r a (row_answer a.place (x ∷ xs)) p = record { row = x ∷ xs; one = one; last = last; given = given; ended = inr (inl (record { met_end = s.met_end; limit = s.limit; is_left = s.is_left; answered = inr (some, refl) })) } in
-      subst (λ (l : RowAnswers). Run step_of_rows (r, Some a) l p) (sym is) (p, d, run_of_ends_after s.ends p s.is_left)
+      subst (λ (l : RowAnswers). Run RowStep (r, Some a) l p) (sym is) (p, d, run_of_ends_after s.ends p s.is_left)
   run_of_last_draw r last a unclosed trace p placed given one (inr (inr s)) =
       let is : trace ≡ failure Read ∷ replicate s.ends end = s.answers ∙ ap (λ l. row_answers a.place l ++ failure Read ∷ replicate s.ends end) rows-none in
       let d : DrawsRow left stays r a (failure Read) p = record { row = unclosed; one = one; last = last; given = given; ended = inr (inr (record { missed = s.missed; is_left = s.is_left; answered = refl })) } in
-      subst (λ (l : RowAnswers). Run step_of_rows (r, Some a) l p) (sym is) (p, d, run_of_ends_after s.ends p s.is_left)
+      subst (λ (l : RowAnswers). Run RowStep (r, Some a) l p) (sym is) (p, d, run_of_ends_after s.ends p s.is_left)
 
-  run_from_closed_rows : (closed : List ℕ) → ClosedRows closed → (r last : B) (a : Ahead) (unclosed : List ℕ) (trace : RowAnswers) (p : B × Option Ahead) → a.place ≤ 4294967295 → GivesBytes left stays r (closed ++ unclosed) last → IsOneRow unclosed → StopsReading last a closed unclosed trace p → Run step_of_rows (r, Some a) trace p
+  run_from_closed_rows : (closed : List ℕ) → ClosedRows closed → (r last : B) (a : Ahead) (unclosed : List ℕ) (trace : RowAnswers) (p : B × Option Ahead) → a.place ≤ 4294967295 → GivesBytes left stays r (closed ++ unclosed) last → IsOneRow unclosed → StopsReading last a closed unclosed trace p → Run RowStep (r, Some a) trace p
   run_from_closed_rows closed (no_rows e) r last a unclosed trace p placed given one s =
       run_of_last_draw r last a unclosed trace p placed (subst (λ l. GivesBytes left stays r (l ++ unclosed) last) e given) one (subst (λ l. StopsReading last a l unclosed trace p) e s)
   run_from_closed_rows closed (row_then row rest e is_one h) r last a unclosed trace p placed given one s =
@@ -265,11 +265,11 @@ module _ {B : Type 0} (left : B → Option (List ℕ)) (stays : Bool → B → B
       let t = stops_after_row_of_run last a after row rest unclosed trace p is_one limit refl stopped in
       let q = parts.2.0 in
       let d : DrawsRow left stays r a (row_answer a.place row) (q, Some after) = record { row = row; one = is_one; last = parts.0; given = parts.1; ended = inl (record { after = after; newline = parts.2.1; limit = limit; place = refl; is_left = refl; answered = refl }) } in
-      subst (λ (l : RowAnswers). Run step_of_rows (r, Some a) l p) (sym t.is) ((q, Some after), d, run_from_closed_rows rest h q last after unclosed t.rest p (omega arith) parts.2.2 one t.stopped)
+      subst (λ (l : RowAnswers). Run RowStep (r, Some a) l p) (sym t.is) ((q, Some after), d, run_from_closed_rows rest h q last after unclosed t.rest p (omega arith) parts.2.2 one t.stopped)
 
-  pub run_of_reads_rows : (trace : RowAnswers) (r : B) (a : Ahead) (p : B × Option Ahead) → a.place ≤ 4294967295 → ReadsRows left stays r a trace p → Run step_of_rows (r, Some a) trace p
+  pub run_of_reads_rows : (trace : RowAnswers) (r : B) (a : Ahead) (p : B × Option Ahead) → a.place ≤ 4294967295 → ReadsRows left stays r a trace p → Run RowStep (r, Some a) trace p
   run_of_reads_rows trace r a p placed h = run_from_closed_rows h.closed (closed_rows_of_bytes h.closed h.are_closed) r h.last a h.unclosed trace p placed h.given h.one h.stopped
 
-  pub rows_run_iff_trace : (trace : RowAnswers) (p q : B × Option Ahead) → IsPlaced p → Run step_of_rows p trace q ↔ RowsTrace left stays p trace q
+  pub rows_run_iff_trace : (trace : RowAnswers) (p q : B × Option Ahead) → IsPlaced p → Run RowStep p trace q ↔ RowsTrace left stays p trace q
   rows_run_iff_trace trace (r, Some a) q placed = (reads_rows_of_run trace r a q placed, run_of_reads_rows trace r a q placed)
-  rows_run_iff_trace trace (r, None) q placed = (ends_alone_after_rows trace r None q refl, (λ h. subst (λ (l : RowAnswers). Run step_of_rows (r, None) l q) (sym h.0.1) (subst (λ (u : B × Option Ahead). Run step_of_rows (r, None) (replicate h.0.0 end) u) (sym h.1) (run_of_ends h.0.0 r))))
+  rows_run_iff_trace trace (r, None) q placed = (ends_alone_after_rows trace r None q refl, (λ h. subst (λ (l : RowAnswers). Run RowStep (r, None) l q) (sym h.0.1) (subst (λ (u : B × Option Ahead). Run RowStep (r, None) (replicate h.0.0 end) u) (sym h.1) (run_of_ends h.0.0 r))))

@@ -1,9 +1,12 @@
 -- What a run does to its reader and its writer.
-use Rattle.std.specs.Prelude.{◌≡◌, ℕ, ◌-◌, ◌^◌, ◌≤◌, ◌<◌, ◌⊎◌, Bool, true, false, List, [], ◌∷◌, ◌++◌, length, take, All, IfSome, Option, Ok, Err}
-use Rattle.std.specs.Io.KnownBytes.{Appends, Consumes, IsAtEnd}
+use Rattle.std.specs.Prelude.{◌≡◌, ℕ, ◌-◌, ◌^◌, ◌≤◌, ◌<◌, ◌⊎◌, Bool, true, false, List, [], ◌∷◌, ◌++◌, length, take, All, IfSome, Option, Result, Ok, Err}
+use Rattle.std.specs.Io.KnownBytes.{Appends, Consumes, IsAtEnd, Keeps}
 use Rattle.fallible_rows.specs.Rows.{rows}
 use Rattle.fallible_rows.specs.RowTraces.{IsOneRow, IsClosed}
 use Rattle.fallible_rows.specs.Report.{row_limit, is_refused, report}
+use Rattle.fallible_rows.specs.declared.fault.BadRow.{BadRow}
+use Rattle.program_io.specs.declared.fault.RunFault.{RunFault}
+use Rattle.program_io.specs.declared.fault.RunFault.TheVariants.{Input, Read, Memory, Write}
 
 -- how many bytes are read at most: `u64::MAX`
 abbrev pub byte_limit : ℕ
@@ -63,3 +66,12 @@ pub record NoneRefusedYet (old new : Option (List ℕ)) : Type 0 where
 -- A read failed after some first bytes, and left the reader so; or as many bytes as may be read were.
 abbrev pub FailsReading : {R : Type 0} → (R → Option (List ℕ)) → (Bool → R → R → Type 0) → R → R → Type 0
 FailsReading {R} left stays r q = (bytes : List ℕ) × (last : R) × Consumes (left r) (left last) bytes × ((length bytes ≡ byte_limit) ⊎ stays true last q)
+
+module _ {R W : Type 0} (left : R → Option (List ℕ)) (stays : Bool → R → R → Type 0) (input input' : R) (failed : W → Type 0) (written written' : Option (List ℕ)) (output' : W) where
+  -- What an outcome says of the input, and of what was written: that a prefix was read that decides, and its report was written and nothing else; that the first of its rows that is refused has this place; that no row was refused before reading failed; or that the prefix has a report, and writing failed. Of memory it doesn't run out.
+  abbrev pub ComesTo : {T : Type 0} → Result T (RunFault BadRow) → Type 0
+  ComesTo (Ok done) = WritesReport (left input) (left input') written written'
+  ComesTo (Err (Input row)) = IsRefusedAt row.place (left input) (left input') × Keeps written written'
+  ComesTo (Err Read) = NoneRefusedYet (left input) (left input') × FailsReading left stays input input' × Keeps written written'
+  ComesTo (Err Memory) = ⊥
+  ComesTo (Err Write) = HasReport (left input) (left input') × failed output'

@@ -9,10 +9,7 @@ pub mod laws;
 mod rows;
 mod summing;
 
-ghost use Rattle.std.specs.Prelude.{◌≡◌, ◌≢◌, Ok, Err, OnOk, OnErr};
-ghost use Rattle.std.specs.Io.KnownBytes.{Keeps};
-ghost use Rattle.fallible_rows.specs.declared.fault.BadRow.{BadRow};
-ghost use Rattle.fallible_rows.specs.Run.{WritesReport, IsRefusedAt, HasReport, NoneRefusedYet, FailsReading, TakesFromPrefix};
+ghost use Rattle.fallible_rows.specs.Run.{ComesTo, TakesFromPrefix};
 
 pub use fault::{BadRow, RowFault};
 use program_io::fault::RunFault;
@@ -32,23 +29,8 @@ pub fn run<R: ReadByte, W: WriteText>(
     reader: &mut R,
     writer: &mut W,
 ) -> Result<(), RunFault<BadRow>>
-    // Each says which bytes were read, at most `u64::MAX`, and what their report is.
-    ensures ok { OnOk result (WritesReport (R.left reader.old) (R.left reader.new)
-        (W.written writer.old) (W.written writer.new)) }
-    ensures row { (row : BadRow) → result ≡ Err (RunFault.Input row)
-        → IsRefusedAt row.place (R.left reader.old) (R.left reader.new) }
-    ensures write { result ≡ Err RunFault.Write
-        → HasReport (R.left reader.old) (R.left reader.new) × W.failed writer.new }
-
-    // No row that was closed before the failed read is refused.
-    ensures read { result ≡ Err RunFault.Read
-        → NoneRefusedYet (R.left reader.old) (R.left reader.new) }
-    ensures read_failed { result ≡ Err RunFault.Read
-        → FailsReading R.left R.stays reader.old reader.new }
-
-    ensures no_memory { result ≢ Err RunFault.Memory }
-    ensures unwritten { result ≢ Err RunFault.Write
-        → OnErr result (Keeps (W.written writer.old) (W.written writer.new)) }
+    ensures outcome { ComesTo R.left R.stays reader.old reader.new W.failed
+        (W.written writer.old) (W.written writer.new) writer.new result }
     ensures taken { TakesFromPrefix (R.left reader.old) (R.left reader.new) }
 {
     // Unused: the `run` of each program is called in one form, and the others allocate. `Memory` is for the caller, since the allocation of its buffer may fail.

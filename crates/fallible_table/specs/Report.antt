@@ -1,12 +1,14 @@
 -- What a run over a table reads and writes.
-use Rattle.std.specs.Prelude.{◌≡◌, ◌⊎◌, ℕ, ◌+◌, ◌*◌, ◌^◌, ◌<◌, ◌≤◌, List, [], ◌∷◌, ◌++◌, length, Option, Result, Ok, Err, codes, decimal}
+use Rattle.std.specs.Prelude.{◌≡◌, ◌≢◌, ◌⊎◌, ℕ, ◌+◌, ◌*◌, ◌^◌, ◌<◌, ◌≤◌, List, [], ◌∷◌, ◌++◌, length, Option, Result, Ok, Err, codes, decimal}
 use Rattle.std.specs.IoError.{error_kind}
-use Rattle.std.specs.Io.KnownBytes.{Appends, Consumes, IsAtEnd}
+use Rattle.std.specs.Io.KnownBytes.{Appends, Consumes, IsAtEnd, Keeps}
 use Rattle.std.specs.declared.io.Error.{Error}
 use Rattle.std.specs.declared.io.ErrorKind.{ErrorKind}
-use Rattle.std.specs.declared.io.ErrorKind.TheVariants.{TimedOut}
+use Rattle.std.specs.declared.io.ErrorKind.TheVariants.{OutOfMemory, TimedOut}
 use Rattle.program_io.specs.Faults.{placed_text}
 use Rattle.program_io.specs.Reading.{Fails}
+use Rattle.program_io.specs.declared.fault.RunFault.{RunFault}
+use Rattle.program_io.specs.declared.fault.RunFault.TheVariants.{Input, Read, Memory, Write}
 use Rattle.fallible_table.specs.Tables.{totals_of}
 use Rattle.fallible_table.specs.declared.table.TableFault.{TableFault}
 use Rattle.fallible_table.specs.declared.table.TableFault.TheVariants.{Bad, Cut}
@@ -69,6 +71,15 @@ module _ {R : Type 0} (left : R → Option (List ℕ)) (fails : ErrorKind → R 
   ReadsTotals r (Ok (Ok totals)) q = ReadsTable (left r) (left q) (Ok totals)
   ReadsTotals r (Ok (Err fault)) q = HasFault (left r) (left q) fault
   ReadsTotals r (Err e) q = FailsUndecided (error_kind e) r q
+
+module _ {R W : Type 0} (left : R → Option (List ℕ)) (fails : ErrorKind → R → R → Type 0) (input input' : R) (failed : W → Type 0) (written written' : Option (List ℕ)) (output' : W) where
+  -- What an outcome says of the input, and of what was written: that the table was read, and its totals were written and nothing else; that it has this fault; that reading failed, for want of memory or else; or that it has totals, and writing failed.
+  abbrev pub ComesTo : {T : Type 0} → Result T (RunFault TableFault) → Type 0
+  ComesTo (Ok done) = WritesReport (left input) (left input') written written'
+  ComesTo (Err (Input fault)) = HasFault (left input) (left input') fault × Keeps written written'
+  ComesTo (Err Read) = ((kind : ErrorKind) × (kind ≢ OutOfMemory) × fails kind input input') × Keeps written written'
+  ComesTo (Err Memory) = fails OutOfMemory input input' × Keeps written written'
+  ComesTo (Err Write) = HasTotals (left input) (left input') × failed output'
 
 -- the status that a program ends with
 abbrev pub status_of : TableFault → ℕ

@@ -1,9 +1,7 @@
 //! The totals of a table that a reader yields, as lines of text.
-ghost use Rattle.std.specs.Prelude.{◌≡◌, ◌≢◌, Err, OnOk, OnErr};
-ghost use Rattle.std.specs.Io.KnownBytes.{Appends, Keeps};
-ghost use Rattle.fallible_table.specs.Report.{report_of, FailsUndecided, HasFault, WritesReport, HasTotals, status_of, text_of};
-ghost use Rattle.std.specs.declared.io.ErrorKind.{ErrorKind};
-ghost use Rattle.fallible_table.specs.declared.table.TableFault.{TableFault};
+ghost use Rattle.std.specs.Prelude.{OnOk, OnErr};
+ghost use Rattle.std.specs.Io.KnownBytes.{Appends};
+ghost use Rattle.fallible_table.specs.Report.{ComesTo, FailsUndecided, report_of, status_of, text_of};
 
 use crate::reading::read_totals;
 use crate::table::{TableFault, Totals};
@@ -32,22 +30,8 @@ pub fn run<R: ReadBytes, W: WriteText>(
     reader: &mut R,
     writer: &mut W,
 ) -> Result<(), RunFault<TableFault>>
-    ensures ok { OnOk result (WritesReport (R.left reader.old) (R.left reader.new)
-        (W.written writer.old) (W.written writer.new)) }
-    ensures table { (fault : TableFault) → result ≡ Err (RunFault.Input fault)
-        → HasFault (R.left reader.old) (R.left reader.new) fault }
-    ensures write { result ≡ Err RunFault.Write
-        → HasTotals (R.left reader.old) (R.left reader.new) × W.failed writer.new }
-
-    // Reading failed, and of which kind.
-    ensures read { result ≡ Err RunFault.Read → (kind : ErrorKind)
-        × (kind ≢ ErrorKind.OutOfMemory)
-        × FailsUndecided R.left R.fails kind reader.old reader.new }
-    ensures memory { result ≡ Err RunFault.Memory
-        → FailsUndecided R.left R.fails ErrorKind.OutOfMemory reader.old reader.new }
-
-    ensures unwritten { result ≢ Err RunFault.Write
-        → OnErr result (Keeps (W.written writer.old) (W.written writer.new)) }
+    ensures { ComesTo R.left (FailsUndecided R.left R.fails) reader.old reader.new W.failed
+        (W.written writer.old) (W.written writer.new) writer.new result }
 {
     let totals = match read_totals(reader) {
         Ok(Ok(totals)) => totals,

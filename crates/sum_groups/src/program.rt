@@ -44,10 +44,7 @@ fn fault_of_bytes(bytes: &[u8]) -> Option<GroupsFault>
     ensures { MatchOption result (AreRows bytes.now) (IsNoRows bytes.now) }
 {
     match from_utf8(bytes) {
-        Ok(text) => match bad_row_of(text) {
-            Some(bad) => Some(GroupsFault::Row(bad)),
-            None => None,
-        },
+        Ok(text) => bad_row_of(text).map(GroupsFault::Row),
         Err(e) => Some(fault_of_front(bytes, e.valid_up_to())),
     }
 }

@@ -1,31 +1,11 @@
 // The program, over any input and any two outputs.
-ghost use Rattle.fallible_table.specs.Report.{FailsUndecided, status_of, text_of};
+ghost use Rattle.fallible_table.specs.Report.{ComesTo, FailsUndecided, status_of, text_of};
 ghost use Rattle.program_io.specs.Endings.{EndsWith};
-ghost use Rattle.sum_table.specs.Program.{ComesTo};
 
 use fallible_table::report::run;
-use fallible_table::table::TableFault;
 use program_io::ending::ended;
-use program_io::fault::RunFault;
 use program_io::reading::ReadBytes;
 use program_io::writing::WriteText;
-
-// `run` over `input`.
-fn run_table<R: ReadBytes, W: WriteText>(
-    input: &mut R,
-    output: &mut W,
-) -> Result<(), RunFault<TableFault>>
-    ensures { ComesTo R.left (FailsUndecided R.left R.fails) input.old input.new W.failed
-        (W.written output.old) (W.written output.new) output.new result }
-{
-    match run(input, output) {
-        Ok(()) => Ok(()),
-        Err(RunFault::Input(fault)) => Err(RunFault::Input(fault)),
-        Err(RunFault::Read) => Err(RunFault::Read),
-        Err(RunFault::Memory) => Err(RunFault::Memory),
-        Err(RunFault::Write) => Err(RunFault::Write),
-    }
-}
 
 // Runs over `input`, and tells `errors` of a fault, with the name of the input where that has one. The status that the program ends with; an `Err` where there was a line to tell and it could not be written.
 pub(crate) fn program<R: ReadBytes, W: WriteText, E: WriteText>(
@@ -39,5 +19,5 @@ pub(crate) fn program<R: ReadBytes, W: WriteText, E: WriteText>(
         (ComesTo R.left (FailsUndecided R.left R.fails) input.old input.new W.failed
         (W.written output.old) (W.written output.new) output.new) result }
 {
-    ended(run_table(input, output), name, errors)
+    ended(run(input, output), name, errors)
 }

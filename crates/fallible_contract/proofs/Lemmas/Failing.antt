@@ -22,8 +22,8 @@ failing_trace_of_failing_answer steps r (Err d) step made = pass_trace_answer (O
 
 -- ---- what it lists is what an adapter that is called on items does, exchanged
 
-failing_never_ends : {X D E : Type 0} (d : D) (e : E) → failing_outcome {X = X} d e ≡ End → ⊥
-failing_never_ends d e is = absurd cc
+failing_outcome_is_never_end : {X D E : Type 0} (d : D) (e : E) → failing_outcome {X = X} d e ≡ End → ⊥
+failing_outcome_is_never_end d e is = absurd cc
 
 -- What replaces the items of a list and nothing else replaces the failures of the list exchanged.
 module _ {X D E : Type 0} (k : List (Result D X) → List (Result E X)) (h : D → E) (none : k [] ≡ []) (at_item : (d : D) (l : List (Result D X)) → k (Ok d ∷ l) ≡ Ok (h d) ∷ k l) (at_failure : (x : X) (l : List (Result D X)) → k (Err x ∷ l) ≡ Err x ∷ k l) where
@@ -58,9 +58,9 @@ module _ {S F X D E : Type 0} (front back : S → Answered X D → S → Type 0)
   -- the closure's answers on the failures, where it is steady on them
   pub lists_mapped_of_steady_answers : (asked : List (Result X (D × E))) → Steady call f (failures_listed asked) → ListsBothEnds front back s (failures_mapped (λ c. c.0) asked) → ListsMapped (failures_mapped (λ c. c.1) asked)
   lists_mapped_of_steady_answers asked steady i = lists_mapped_where_exchanged_lists _ _ (ap (map exchanged_result) (mapped_of_exchanged_is_exchanged_mapped (passed_list failing_outcome) (λ c. c.1) refl (λ c k. refl) (λ x k. refl) asked) ∙ map_exchanged_twice_is_same (failures_mapped (λ c. c.1) asked))
-      (lists_both_ends_passed (steps_exchanged front) (steps_exchanged back) call failing_outcome failing_never_ends (map exchanged_result asked) s f (subst (λ (c : List (D × E)). Steady call f c) (sym (items_of_exchanged_is_failures_listed asked)) steady)
+      (lists_both_ends_passed (steps_exchanged front) (steps_exchanged back) call failing_outcome failing_outcome_is_never_end (map exchanged_result asked) s f (subst (λ (c : List (D × E)). Steady call f c) (sym (items_of_exchanged_is_failures_listed asked)) steady)
       (subst (λ (k : List (Result D X)). ListsBothEnds (steps_exchanged front) (steps_exchanged back) s k) (sym (mapped_of_exchanged_is_exchanged_mapped source_list (λ c. c.0) refl (λ c k. refl) (λ x k. refl) asked)) (lists_both_ends_of_exchanged_results front back s (failures_mapped (λ c. c.0) asked) i)))
 
   -- the same, where it acts as a function
   pub lists_mapped_by_function : (h : D → E) → Acts call f h → (l : List (Result X D)) → ListsBothEnds front back s l → ListsMapped (failures_mapped h l)
-  lists_mapped_by_function h acts l i = lists_mapped_where_exchanged_lists _ _ (exchanged_passed_is_failures_mapped h l) (lists_both_ends_by_function call failing_outcome failing_never_ends f h acts (steps_exchanged front) (steps_exchanged back) s (map exchanged_result l) (lists_both_ends_of_exchanged_results front back s l i))
+  lists_mapped_by_function h acts l i = lists_mapped_where_exchanged_lists _ _ (exchanged_passed_is_failures_mapped h l) (lists_both_ends_by_function call failing_outcome failing_outcome_is_never_end f h acts (steps_exchanged front) (steps_exchanged back) s (map exchanged_result l) (lists_both_ends_of_exchanged_results front back s l i))

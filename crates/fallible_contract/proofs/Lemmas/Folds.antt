@@ -120,6 +120,7 @@ abbrev KeepsItem : {A R : Type 0} → Option A → A → ControlFlow R (Unit {0}
 KeepsItem o x r d = (r ≡ Continue tt) × (d ≡ Some x)
 
 module _ {A E : Type 0} (R : Type 0) where
+  -- What the fold returned says how it met its last answer: this turn never stops it.
   over_exit_at_end : (last : Answered A E) (n k : ℕ) → DriveExit (CountsUp {R = R}) n last (Ok None) k → (k ≡ n) × OverExit last (Ok tt)
   over_exit_at_end (Ok None) n k h = (h.1, refl)
   over_exit_at_end (Ok (Some x)) n k h = absurd (let e = h.1.0 in cc)

@@ -167,10 +167,10 @@ module _ {S F X R B E : Type 0} (m : Contract S X E) (l : Lawful m) (call : F �
     PassingContract = passing_contract m call callable outcome hints
 
     -- a draw after a left-out item was a draw
-    on_answer_after : (s u t : S) (f h g : F) (r : Answered B E) (x : X) (v : R) → KeptByDraw m s (item x) u → call f x v h → OnAnswer PassingContract (u, h) r (t, g) → OnAnswer PassingContract (s, f) r (t, g)
-    on_answer_after s u t f h g (Ok (Some y)) x v a called b = (may_answer_where_reached_may_answer a.may_give (reaches_by_call_first x v a.answer.0 called reaches_reflexive) b.0, (λ n c. let j = a.answer.1 n c in let k = b.1 j.0 j.1 in (k.0, k.1, omega (arith, j.2, k.2))), (λ e. let j = a.answer.2 e in let k = b.2 j.0 in (k.0, omega (arith, j.1, k.1))))
-    on_answer_after s u t f h g (Ok None) x v a called b = ((λ n c. let j = a.answer.1 n c in let k = b.0 j.0 j.1 in (k.0, k.1, omega (arith, j.2, k.2))), (λ e. let j = a.answer.2 e in let k = b.1 j.0 in (k.0, omega (arith, j.1, k.1))))
-    on_answer_after s u t f h g (Err e) x v a called b = (elim b.0 [ inl c ↦ inl (a.may_fail e c) | inr c ↦ inr (may_answer_where_reached_may_answer a.may_give (reaches_by_call_first x v a.answer.0 called reaches_reflexive) c) ], (λ n c. let j = a.answer.1 n c in let k = b.1 j.0 j.1 in (k.0, k.1, omega (arith, j.2, k.2))), (λ d. let j = a.answer.2 d in let k = b.2 j.0 in (k.0, omega (arith, j.1, k.1))))
+    on_answer_after_left_out : (s u t : S) (f h g : F) (r : Answered B E) (x : X) (v : R) → KeptByDraw m s (item x) u → call f x v h → OnAnswer PassingContract (u, h) r (t, g) → OnAnswer PassingContract (s, f) r (t, g)
+    on_answer_after_left_out s u t f h g (Ok (Some y)) x v a called b = (may_answer_where_reached_may_answer a.may_give (reaches_by_call_first x v a.answer.0 called reaches_reflexive) b.0, (λ n c. let j = a.answer.1 n c in let k = b.1 j.0 j.1 in (k.0, k.1, omega (arith, j.2, k.2))), (λ e. let j = a.answer.2 e in let k = b.2 j.0 in (k.0, omega (arith, j.1, k.1))))
+    on_answer_after_left_out s u t f h g (Ok None) x v a called b = ((λ n c. let j = a.answer.1 n c in let k = b.0 j.0 j.1 in (k.0, k.1, omega (arith, j.2, k.2))), (λ e. let j = a.answer.2 e in let k = b.1 j.0 in (k.0, omega (arith, j.1, k.1))))
+    on_answer_after_left_out s u t f h g (Err e) x v a called b = (elim b.0 [ inl c ↦ inl (a.may_fail e c) | inr c ↦ inr (may_answer_where_reached_may_answer a.may_give (reaches_by_call_first x v a.answer.0 called reaches_reflexive) c) ], (λ n c. let j = a.answer.1 n c in let k = b.1 j.0 j.1 in (k.0, k.1, omega (arith, j.2, k.2))), (λ d. let j = a.answer.2 d in let k = b.2 j.0 in (k.0, omega (arith, j.1, k.1))))
 
     on_answer_passes : (s t : S) (f g : F) (r : Answered B E) → m.can_next s → PassesHere s f (r ∷ []) t g → OnAnswer PassingContract (s, f) r (t, g)
     on_answer_passes s t f g _ c (end_passes step done) = (l.kept_by_draw s (Ok None) t c step).answer
@@ -178,7 +178,7 @@ module _ {S F X R B E : Type 0} (m : Contract S X E) (l : Lawful m) (call : F �
     on_answer_passes s t f g _ c (keeps x v y step called is done) = let a = (l.kept_by_draw s (item x) t c step).answer in (may_answer_of_call g x v a.0 called is, a.1, a.2)
     on_answer_passes s t f g _ c (refuses x v e step called is done) = let a = (l.kept_by_draw s (item x) t c step).answer in (inr (may_answer_of_call g x v a.0 called is), (λ n b. let k = a.1 n b in (k.0, k.1, omega (arith, k.2))), a.2)
     on_answer_passes s t f g _ c (closes x v step called is done) = let a = (l.kept_by_draw s (item x) t c step).answer in ((λ n b. let k = a.1 n b in (k.0, k.1, omega (arith, k.2))), (λ d. let k = a.2 d in (k.0, omega (arith, k.1))))
-    on_answer_passes s t f g r c (leaves_out {u = u} {h = h} x v step called is rest) = let a = l.kept_by_draw s (item x) u c step in on_answer_after s u t f h g r x v a called (on_answer_passes u t h g r a.can_next rest)
+    on_answer_passes s t f g r c (leaves_out {u = u} {h = h} x v step called is rest) = let a = l.kept_by_draw s (item x) u c step in on_answer_after_left_out s u t f h g r x v a called (on_answer_passes u t h g r a.can_next rest)
 
     kept_by_draw_passing : StaysCallable call callable → (p : S × F) (r : Answered B E) (q : S × F) → PassingContract.can_next p → PassingContract.steps p r q → KeptByDraw PassingContract p r q
     kept_by_draw_passing after (s, f) r (t, g) c step = let p = passes_of_pass_trace step in let a = kept_by_draws_passes s t f g _ c.0 p in let reached = reaches_passes s t f g _ c.0 p in record {

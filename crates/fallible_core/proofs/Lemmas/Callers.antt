@@ -92,9 +92,9 @@ module _ {X E : Type 0} where
   tested_never_fails x true e h = cc
   tested_never_fails x false e h = cc
 
-  tested_never_ends : (x : X) (b : Bool) → tested_outcome {E = E} x (Ok b) ≡ End → ⊥
-  tested_never_ends x true h = cc
-  tested_never_ends x false h = cc
+  tested_outcome_is_never_end : (x : X) (b : Bool) → tested_outcome {E = E} x (Ok b) ≡ End → ⊥
+  tested_outcome_is_never_end x true h = cc
+  tested_outcome_is_never_end x false h = cc
 
 -- what the run of a filter was drawn from: a run of its source, with the same last answer, of whose items these are those to which h returns true
 pub record FilteredRun {S X E : Type 0} (steps : S → Answered X E → S → Type 0) (h : X → Bool) (s : S) (xs : List X) (last : Answered X E) (t : S) : Type 0 where
@@ -132,7 +132,7 @@ module _ {S F X E : Type 0} (steps : S → Answered X E → S → Type 0) (call 
   filtered_below_of_passes [] last s t f g _ at e (keeps {u = u} {h = j} {trace = rest} x v y step called is p) = let k = kept_is_true x y (h x) (tested_outcome_same_where_closure_acts (Kept y) f j x v at called is) in filtered_below_last s u t j g (item x) last rest (ap {B = List (Answered X E)} (λ (z : X). item z ∷ rest) k.1 ∙ e) step p
   filtered_below_of_passes (z ∷ xs) last s t f g _ at e (keeps {u = u} {h = j} x v y step called is p) = let k = kept_is_true x y (h x) (tested_outcome_same_where_closure_acts (Kept y) f j x v at called is) in filtered_below_kept s u t x z xs last k.0 (k.1 ∙ cc) step (filtered_below_of_passes xs last u t j g _ (acts f x v j at called).0 (cc) p)
   filtered_below_of_passes xs last s t f g _ at e (refuses {h = j} x v d step called is p) = absurd (tested_never_fails x (h x) d (tested_outcome_same_where_closure_acts (Failure d) f j x v at called is))
-  filtered_below_of_passes xs last s t f g _ at e (closes {h = j} x v step called is p) = absurd (tested_never_ends x (h x) (tested_outcome_same_where_closure_acts End f j x v at called is))
+  filtered_below_of_passes xs last s t f g _ at e (closes {h = j} x v step called is p) = absurd (tested_outcome_is_never_end x (h x) (tested_outcome_same_where_closure_acts End f j x v at called is))
   filtered_below_of_passes xs last s t f g trace at e (leaves_out {u = u} {h = j} x v step called is p) = filtered_below_left_out s u t x xs last (left_out_is_false x (h x) (tested_outcome_same_where_closure_acts LeftOut f j x v at called is)) step (filtered_below_of_passes xs last u t j g trace (acts f x v j at called).0 e p)
 
   pub filtered_below_of_run : (xs : List X) (last : Answered X E) (p q : S × F) → p.1 ≡ fixed → Run (λ p r q. PassTrace steps call tested_outcome p (r ∷ []) q) p (map item xs ++ last ∷ []) q → FilteredBelow p.0 xs last q.0

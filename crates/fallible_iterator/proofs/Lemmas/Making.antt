@@ -12,6 +12,7 @@ use Rattle.fallible_contract.specs.Laws.Passing.{Passes, done, end_passes, failu
 use Rattle.fallible_contract.specs.Lists.{AlwaysGives, Converts, Lists, before, collected, counted, folded, one_more_than}
 use Rattle.fallible_contract.proofs.Lemmas.Lists.Passing.{end_of_nil, answer_is_failure_first_in_list}
 use Rattle.fallible_core.specs.OneToOne.Map.{map_outcome, map_parts, mapped}
+use Rattle.fallible_core.proofs.Lemmas.OneToOne.Map.{map_outcome_is_never_end}
 use Rattle.fallible_iterator.specs.Making.{AnswersRefusal, AtRefusal, CollectedMade, EachMade, GivesMade, IsMadeOf, IsRefusal, IsToldOrRefused, ListsMade, Makes, MakesOf, MakesWith, RefusesNext, SameOrRefused}
 use Rattle.std.specs.declared.alloc.AllocError.{AllocError}
 use Rattle.fallible_contract.specs.declared.collecting.Fault.{Fault}
@@ -32,10 +33,6 @@ module _ {X V B E : Type 0} (made : V → B → Type 0) (from : AllocError → E
   refusal_or_made_of_failure (Ok w) (Err d) e is m = inl (e, refl, subst (IsRefusal from) (let same = is in cc) m)
   refusal_or_made_of_failure (Err c) (Err d) e is (inl same) = inr (let i = is in cc)
   refusal_or_made_of_failure (Err c) (Err d) e is (inr m) = inl (e, refl, subst (IsRefusal from) (let i = is in cc) m)
-
-  map_outcome_is_never_end : (v : Result B E) → map_outcome x v ≡ End → ⊥
-  map_outcome_is_never_end (Ok y) is = cc
-  map_outcome_is_never_end (Err e) is = cc
 
   map_outcome_is_never_left_out : (v : Result B E) → map_outcome x v ≡ LeftOut → ⊥
   map_outcome_is_never_left_out (Ok y) is = cc
@@ -66,7 +63,7 @@ module _ {S F X V B E : Type 0} (steps : S → Answered X E → S → Type 0) (c
   after_item_of_one_drawn x l s _ t g a (failure_passes e step c) = absurd (let w = (a (Err e) _ step).0 in cc)
   after_item_of_one_drawn x l s _ t g a (keeps z v y step called is done) = let w = a (Ok (Some z)) t step in let c = told_or_refused x z v g (let q = w.0 in cc) called in inr (is_made_of_kept made from z (h x) v y is c.1, c.0, w.1)
   after_item_of_one_drawn x l s _ t g a (refuses z v e step called is done) = let w = a (Ok (Some z)) t step in let c = told_or_refused x z v g (let q = w.0 in cc) called in after_item_of_refusal_or_made l x e t g c.0 w.1 (refusal_or_made_of_failure made from z (h x) v e is c.1)
-  after_item_of_one_drawn x l s _ t g a (closes z v step called is c) = absurd (map_outcome_is_never_end made from z v is)
+  after_item_of_one_drawn x l s _ t g a (closes z v step called is c) = absurd (map_outcome_is_never_end z v is)
   after_item_of_one_drawn x l s r t g a (leaves_out z v step called is c) = absurd (map_outcome_is_never_left_out made from z v is)
 
   at_refusal_or_made_after_item : (l : List (Result X E)) (x : X) (k : List (Result V E)) → ((t : S) → AlwaysGives steps t l → GivesMadeItems t f k) → (r : Answered B E) (t : S) (g : F) → AfterItem l x r t g → AtRefusal made (passing_step steps call map_outcome) from r (t, g) ⊎ (IsMadeOf made (h x) r × GivesMadeItems t g k)
@@ -188,7 +185,7 @@ module _ {S F X Y B C E : Type 0} (steps : S → Answered B E → S → Type 0) 
   map_refused_or_made_of_gives_made z l s _ t g a (failure_passes e step done) = map_refused_or_made_of_failure z l e t (failure_told of steps from z e t (a (Err e) t step))
   map_refused_or_made_of_gives_made z l s _ t g a (keeps b v y step called is done) = map_refused_or_made_of_kept z l b v y t g is called (item_told of steps from z b t (a (Ok (Some b)) t step))
   map_refused_or_made_of_gives_made z l s _ t g a (refuses b v e step called is done) = map_refused_or_made_of_failing_call z l b v e t g is called (item_told of steps from z b t (a (Ok (Some b)) t step))
-  map_refused_or_made_of_gives_made z l s _ t g a (closes b v step called is d) = absurd (map_outcome_is_never_end made from b v is)
+  map_refused_or_made_of_gives_made z l s _ t g a (closes b v step called is d) = absurd (map_outcome_is_never_end b v is)
   map_refused_or_made_of_gives_made z l s r t g a (leaves_out b v step called is d) = absurd (map_outcome_is_never_left_out made from b v is)
 
   abbrev MapGivesMade : S → F → List (Result Y E) → Type 0

@@ -24,10 +24,10 @@ use Rattle.fallible_core.specs.Filtering.FilterMap.{filter_mapped, filter_map_ou
 use Rattle.fallible_core.specs.Peeking.Peekable.{peekable_parts, peekable_contract, peekable_ends}
 use Rattle.fallible_core.proofs.Lemmas.Joining.ChainListed.{chain_step_back, lists_both_ends_chained, lists_both_ends_first_alone, lists_both_ends_second_alone}
 use Rattle.fallible_core.proofs.Lemmas.OneToOne.Cloned.{passed_list_with_clone_is_mapped, passed_clones_are_pointed_to, lists_both_ends_clones, lists_both_ends_originals}
-use Rattle.fallible_core.proofs.Lemmas.OneToOne.Inspect.{inspect_never_ends, passed_is_inspected}
-use Rattle.fallible_core.proofs.Lemmas.OneToOne.Map.{map_never_ends, passed_is_mapped}
-use Rattle.fallible_core.proofs.Lemmas.Filtering.Filter.{tested_never_ends, passed_is_filtered}
-use Rattle.fallible_core.proofs.Lemmas.Filtering.FilterMap.{filter_map_never_ends, passed_is_filter_mapped}
+use Rattle.fallible_core.proofs.Lemmas.OneToOne.Inspect.{inspect_outcome_is_never_end, passed_is_inspected}
+use Rattle.fallible_core.proofs.Lemmas.OneToOne.Map.{map_outcome_is_never_end, passed_is_mapped}
+use Rattle.fallible_core.proofs.Lemmas.Filtering.Filter.{tested_outcome_is_never_end, passed_is_filtered}
+use Rattle.fallible_core.proofs.Lemmas.Filtering.FilterMap.{filter_map_outcome_is_never_end, passed_is_filter_mapped}
 use Rattle.fallible_core.proofs.Lemmas.Peeking.PeekableEnds.{lists_both_ends_peekable}
 use Rattle.fallible_iterator.specs.Listing.{ListsClones, ListsHeld, clones, originals, ListsByClosure, ListsFailures, ListsBothSides, ListsChanged, by_steady_answers, by_function, by_steady_answers_to_failures, by_function_of_failures, both, first_alone, second_alone}
 use Rattle.std.specs.declared.alloc.AllocError.{AllocError}
@@ -52,19 +52,19 @@ module _ {V S F X R B E : Type 0} (parts : V → S × F) (front back : S → Ans
 
 module _ {S F X B E : Type 0} (g : Mut F (X × Unit {0}) (Result B E)) (front back : S → Answered X E → S → Type 0) where
   pub map_listed : (s : Map S F) (l : List (Result B E)) → ListsByClosure map_parts (call_by_value g) map_outcome mapped (ListsBothEnds front back) s l → ListsBothEnds (λ u r v. passing_step front (call_by_value g) map_outcome (map_parts u) r (map_parts v)) (λ u r v. passing_step back (call_by_value g) map_outcome (map_parts u) r (map_parts v)) s l
-  map_listed = by_closure_listed map_parts front back (call_by_value g) map_outcome map_never_ends mapped passed_is_mapped
+  map_listed = by_closure_listed map_parts front back (call_by_value g) map_outcome map_outcome_is_never_end mapped passed_is_mapped
 
 module _ {S F X E : Type 0} (g : Mut F (Bor X × Unit {0}) (Result (Unit {0}) E)) (front back : S → Answered X E → S → Type 0) where
   pub inspect_listed : (s : Inspect S F) (l : List (Result X E)) → ListsByClosure inspect_parts (call_by_reference g) inspect_outcome inspected (ListsBothEnds front back) s l → ListsBothEnds (λ u r v. passing_step front (call_by_reference g) inspect_outcome (inspect_parts u) r (inspect_parts v)) (λ u r v. passing_step back (call_by_reference g) inspect_outcome (inspect_parts u) r (inspect_parts v)) s l
-  inspect_listed = by_closure_listed inspect_parts front back (call_by_reference g) inspect_outcome inspect_never_ends inspected passed_is_inspected
+  inspect_listed = by_closure_listed inspect_parts front back (call_by_reference g) inspect_outcome inspect_outcome_is_never_end inspected passed_is_inspected
 
 module _ {S F X E : Type 0} (g : Mut F (Bor X × Unit {0}) (Result Bool E)) (front back : S → Answered X E → S → Type 0) where
   pub filter_listed : (s : Filter S F) (l : List (Result X E)) → ListsByClosure filter_parts (call_by_reference g) tested_outcome filtered (ListsBothEnds front back) s l → ListsBothEnds (λ u r v. passing_step front (call_by_reference g) tested_outcome (filter_parts u) r (filter_parts v)) (λ u r v. passing_step back (call_by_reference g) tested_outcome (filter_parts u) r (filter_parts v)) s l
-  filter_listed = by_closure_listed filter_parts front back (call_by_reference g) tested_outcome tested_never_ends filtered passed_is_filtered
+  filter_listed = by_closure_listed filter_parts front back (call_by_reference g) tested_outcome tested_outcome_is_never_end filtered passed_is_filtered
 
 module _ {S F X B E : Type 0} (g : Mut F (X × Unit {0}) (Result (Option B) E)) (front back : S → Answered X E → S → Type 0) where
   pub filter_map_listed : (s : FilterMap S F) (l : List (Result B E)) → ListsByClosure filter_map_parts (call_by_value g) filter_map_outcome filter_mapped (ListsBothEnds front back) s l → ListsBothEnds (λ u r v. passing_step front (call_by_value g) filter_map_outcome (filter_map_parts u) r (filter_map_parts v)) (λ u r v. passing_step back (call_by_value g) filter_map_outcome (filter_map_parts u) r (filter_map_parts v)) s l
-  filter_map_listed = by_closure_listed filter_map_parts front back (call_by_value g) filter_map_outcome filter_map_never_ends filter_mapped passed_is_filter_mapped
+  filter_map_listed = by_closure_listed filter_map_parts front back (call_by_value g) filter_map_outcome filter_map_outcome_is_never_end filter_mapped passed_is_filter_mapped
 
 module _ {V S F X D E : Type 0} (parts : V → S × F) (front back : S → Answered X D → S → Type 0) (call : F → D → E → F → Type 0) where
   -- whose closure is called on each failure

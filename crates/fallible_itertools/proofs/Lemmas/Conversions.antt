@@ -8,7 +8,7 @@ use Rattle.fallible_iterator.specs.Searching.{WentOn, SearchDecides, SearchExit,
 use Rattle.fallible_iterator.specs.Lists.{AlwaysGives, Lists, Acts, ActsWith, Converts, stopped_or, rest_failed, rest_fold, failures_mapped}
 use Rattle.fallible_iterator.proofs.Lemmas.Lists.Rest.{lists_rest_fold, is_some_of_find_pick_is_answer, is_some_of_position_pick_is_answer}
 use Rattle.fallible_iterator.proofs.Lemmas.Lists.Searched.{each_done_of_lists, found_of_lists, position_in_of_lists}
-use Rattle.fallible_itertools.specs.Converting.{ConvertsTo, Converted, try_each_done, try_found, try_position_in, stops_by, rest_try_stop, rest_try_each, rest_try_true}
+use Rattle.fallible_itertools.specs.Converting.{ConvertsTo, Converted, try_each_done, try_found, try_position_in, stops_or_fails, rest_try_stop, rest_try_each, rest_try_true}
 use Rattle.std.specs.declared.ops.ControlFlow.{ControlFlow}
 
 -- ---- draws
@@ -103,21 +103,21 @@ module _ {A E' F V R : Type 0} (call : F → A → Result V E' → F → Type 0)
   module _ (stops : V → Bool) (fits : (n : ℕ) (x : A) (v : V) → is_some (pick n x v) ≡ stops v) (h : A → Result V E') where
     -- where the closure acts as h, these calls act so
     abbrev search_returns : Unit {0} → A → Result (Unit {0}) (Unit {0})
-    search_returns u x = went_or_stopped (stops_by stops (h x))
+    search_returns u x = went_or_stopped (stops_or_fails stops (h x))
 
-    stops_and_keeps_state_where_decided : (f : F) → Acts call f h → (n : ℕ) (x : A) (r : Result R E') (g : F) → SearchDecides call pick n f x r g → (g ≡ f) × (stops_by stops (h x) ≡ true)
-    stops_and_keeps_state_where_decided f acts n x (Ok z) g d = let a = acts x (Ok d.0) g d.1 in (a.0, ap (stops_by stops) (sym a.1) ∙ sym (fits n x d.0) ∙ ap is_some d.2)
-    stops_and_keeps_state_where_decided f acts n x (Err e) g d = let a = acts x (Err e) g d in (a.0, ap (stops_by stops) (sym a.1))
+    stops_and_keeps_state_where_decided : (f : F) → Acts call f h → (n : ℕ) (x : A) (r : Result R E') (g : F) → SearchDecides call pick n f x r g → (g ≡ f) × (stops_or_fails stops (h x) ≡ true)
+    stops_and_keeps_state_where_decided f acts n x (Ok z) g d = let a = acts x (Ok d.0) g d.1 in (a.0, ap (stops_or_fails stops) (sym a.1) ∙ sym (fits n x d.0) ∙ ap is_some d.2)
+    stops_and_keeps_state_where_decided f acts n x (Err e) g d = let a = acts x (Err e) g d in (a.0, ap (stops_or_fails stops) (sym a.1))
 
     acts_with_search : (f : F) → Acts call f h → ActsWith SearchCall f search_returns
-    acts_with_search f acts u x (Ok v) g d = let a = acts x (Ok d.0) g d.1 in (a.0, ap went_or_stopped (sym (ap (stops_by stops) (sym a.1) ∙ sym (fits 0 x d.0) ∙ ap is_some (d.2 0))))
+    acts_with_search f acts u x (Ok v) g d = let a = acts x (Ok d.0) g d.1 in (a.0, ap went_or_stopped (sym (ap (stops_or_fails stops) (sym a.1) ∙ sym (fits 0 x d.0) ∙ ap is_some (d.2 0))))
     acts_with_search f acts u x (Err v) g d = let a = stops_and_keeps_state_where_decided f acts d.0 x d.1 g d.2 in (a.0, ap went_or_stopped (sym a.1))
 
     -- so they leave what the search does
     rest_fold_is_rest_try_stop : {E : Type 0} (l : List (Result A E)) → rest_fold search_returns tt l ≡ rest_try_stop stops h l
     unfolding rest_fold rest_try_stop
     rest_fold_is_rest_try_stop [] = refl
-    rest_fold_is_rest_try_stop (Ok x ∷ l) = rest_failed_is_stopped_or (stops_by stops (h x)) l (rest_fold search_returns tt l) ∙ ap (stopped_or (stops_by stops (h x)) l) (rest_fold_is_rest_try_stop l)
+    rest_fold_is_rest_try_stop (Ok x ∷ l) = rest_failed_is_stopped_or (stops_or_fails stops (h x)) l (rest_fold search_returns tt l) ∙ ap (stopped_or (stops_or_fails stops (h x)) l) (rest_fold_is_rest_try_stop l)
     rest_fold_is_rest_try_stop (Err e ∷ l) = refl
 
     module _ {S E : Type 0} (from : E → E' → Type 0) {steps : S → Answered A E → S → Type 0} {s t : S} {f g : F} {r : Result R E'} {none : R} {l : List (Result A E)} where

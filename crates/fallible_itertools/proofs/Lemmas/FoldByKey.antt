@@ -142,8 +142,8 @@ module _ {B X E : Type 0} (h : B → X → Result B E) where
 
 module _ {K B X E : Type 0} {eq : K → K → Bool} (laws : IsEquivalence eq) (h : B → X → Result B E) (init : B) where
   -- beside the keys stands, as the last value of each, the fold of its values
-  abbrev AreFolds : List (K × X) → List (K × B) → Type 0
-  AreFolds pairs made = (k : K) → option_map (λ b. Ok b) (update_all eq (λ _. None) made k) ≡ option_map (fold_of h init) (values_of_key eq pairs k)
+  abbrev LastValuesAreFolds : List (K × X) → List (K × B) → Type 0
+  LastValuesAreFolds pairs made = (k : K) → option_map (λ b. Ok b) (update_all eq (λ _. None) made k) ≡ option_map (fold_of h init) (values_of_key eq pairs k)
 
   fold_is_last_value_of : (values : List X) (o : Option B) → option_map (λ b. Ok b) o ≡ option_map (fold_of h init) (unless_empty values) → fold_of h init values ≡ Ok (unwrap_or o init)
   unfolding folded
@@ -152,14 +152,14 @@ module _ {K B X E : Type 0} {eq : K → K → Bool} (laws : IsEquivalence eq) (h
   fold_is_last_value_of (x ∷ values) None e = absurd cc
   fold_is_last_value_of (x ∷ values) (Some b) e = cc
 
-  fold_is_last_value : (pairs : List (K × X)) (made : List (K × B)) (k : K) → AreFolds pairs made → fold_of h init (values_where (eq k) pairs) ≡ Ok (last_value eq init made k)
+  fold_is_last_value : (pairs : List (K × X)) (made : List (K × B)) (k : K) → LastValuesAreFolds pairs made → fold_of h init (values_where (eq k) pairs) ≡ Ok (last_value eq init made k)
   fold_is_last_value pairs made k are = fold_is_last_value_of (values_where (eq k) pairs) (update_all eq (λ _. None) made k) (are k)
 
   -- the fold of the values of a pair's key up to that pair
-  fold_up_to_pair : (pairs : List (K × X)) (made : List (K × B)) (p : K × X) → AreFolds pairs made → fold_of h init (values_where (eq p.0) (pairs ++ p ∷ [])) ≡ h (last_value eq init made p.0) p.1
+  fold_up_to_pair : (pairs : List (K × X)) (made : List (K × B)) (p : K × X) → LastValuesAreFolds pairs made → fold_of h init (values_where (eq p.0) (pairs ++ p ∷ [])) ≡ h (last_value eq init made p.0) p.1
   fold_up_to_pair pairs made p are = ap (fold_of h init) (values_where_pushed (eq p.0) pairs p.0 p.1 true (laws.refl p.0)) ∙ folded_of_one_more h init (values_where (eq p.0) pairs) p.1 ∙ ap (λ r. on_value r (λ c. h c p.1)) (fold_is_last_value pairs made p.0 are)
 
-  are_folds_one_more : (pairs : List (K × X)) (made : List (K × B)) (p : K × X) (b : B) → AreFolds pairs made → Ok b ≡ h (last_value eq init made p.0) p.1 → AreFolds (pairs ++ p ∷ []) (made ++ (p.0, b) ∷ [])
+  are_folds_one_more : (pairs : List (K × X)) (made : List (K × B)) (p : K × X) (b : B) → LastValuesAreFolds pairs made → Ok b ≡ h (last_value eq init made p.0) p.1 → LastValuesAreFolds (pairs ++ p ∷ []) (made ++ (p.0, b) ∷ [])
   are_folds_one_more pairs made p b are is k = ap (option_map (λ c. Ok c)) (sym (update_all_push eq (λ _. None) (update_all eq (λ _. None) made) made (p.0, b) k refl)) ∙ by_cases (eq p.0 k) refl
     where
       by_cases : (t : Bool) → eq p.0 k ≡ t → option_map (λ c. Ok c) (cond t (Some b) (update_all eq (λ _. None) made k)) ≡ option_map (fold_of h init) (values_of_key eq (pairs ++ p ∷ []) k)
@@ -173,18 +173,18 @@ module _ {K B X E : Type 0} {eq : K → K → Bool} (laws : IsEquivalence eq) (h
     -- the pairs before an answer, as the closure was called on them
     record Folded (before pairs : List (K × X)) (made : List (K × B)) (g : F) (rest : List (Result (K × X) E)) : Type 0 where
       same : g ≡ f
-      are : AreFolds (before ++ pairs) made
+      are : LastValuesAreFolds (before ++ pairs) made
       list_is : checked_folds eq h init before (map (λ p. Ok p) pairs ++ rest) ≡ map (λ p. Ok p) pairs ++ checked_folds eq h init (before ++ pairs) rest
 
     one_more_then_rest : (l : List (K × X)) (x : K × X) (r : List (K × X)) → (l ++ x ∷ []) ++ r ≡ l ++ x ∷ r
     one_more_then_rest [] x r = refl
     one_more_then_rest (y ∷ l) x r = ap (λ t. y ∷ t) (one_more_then_rest l x r)
 
-    folded_by_calls : (pairs before : List (K × X)) (done made : List (K × B)) (g : F) (rest : List (Result (K × X) E)) → AreFolds before done → FoldsTo {P = List (K × B) × F} (AddsValue call eq init) (done, f) pairs (made, g) → Folded before pairs made g rest
+    folded_by_calls : (pairs before : List (K × X)) (done made : List (K × B)) (g : F) (rest : List (Result (K × X) E)) → LastValuesAreFolds before done → FoldsTo {P = List (K × B) × F} (AddsValue call eq init) (done, f) pairs (made, g) → Folded before pairs made g rest
     unfolding checked_folds
     folded_by_calls [] before done made g rest are went = record {
       same = sym (ap (λ z. z.1) went);
-      are = subst (λ l. AreFolds l made) (sym (append-nil before)) (subst (λ d. AreFolds before d) (ap (λ z. z.0) went) are);
+      are = subst (λ l. LastValuesAreFolds l made) (sym (append-nil before)) (subst (λ d. LastValuesAreFolds before d) (ap (λ z. z.0) went) are);
       list_is = ap (λ l. checked_folds eq h init l rest) (sym (append-nil before));
     }
     folded_by_calls (p ∷ pairs) before done made g rest are went =
@@ -193,12 +193,12 @@ module _ {K B X E : Type 0} {eq : K → K → Bool} (laws : IsEquivalence eq) (h
         let later = folded_by_calls pairs (before ++ p ∷ []) (done ++ (p.0, went.1.0) ∷ []) made g rest more (subst (λ q. FoldsTo {P = List (K × B) × F} (AddsValue call eq init) (q, f) pairs (made, g)) went.1.2 (subst (λ q. FoldsTo {P = List (K × B) × F} (AddsValue call eq init) (went.0.0, q) pairs (made, g)) a.0 went.2)) in
         record {
           same = later.same;
-          are = subst (λ l. AreFolds l made) (one_more_then_rest before p pairs) later.are;
+          are = subst (λ l. LastValuesAreFolds l made) (one_more_then_rest before p pairs) later.are;
           list_is = ap (λ r. unless_failed p r ∷ checked_folds eq h init (before ++ p ∷ []) (map (λ q. Ok q) pairs ++ rest)) (fold_up_to_pair before done p are ∙ sym a.1)
               ∙ ap (λ l. Ok p ∷ l) later.list_is ∙ ap (λ l. Ok p ∷ (map (λ q. Ok q) pairs ++ checked_folds eq h init l rest)) (one_more_then_rest before p pairs);
         }
 
-    are_folds_of_none : AreFolds [] []
+    are_folds_of_none : LastValuesAreFolds [] []
     are_folds_of_none k = refl
 
     collected_is_items : (pairs : List (K × X)) → collected {E = E} (map (λ p. Ok p) pairs ++ []) ≡ Ok pairs

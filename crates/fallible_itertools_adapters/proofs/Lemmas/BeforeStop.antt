@@ -8,7 +8,7 @@ use Rattle.fallible_iterator.specs.SoundHints.{Brackets, SoundHints}
 use Rattle.fallible_iterator.proofs.Lemmas.Hints.Drawn.{brackets_seen, brackets_zero_where_no_item, if_some_at_least_of_smaller}
 use Rattle.fallible_iterator.proofs.Lemmas.Hints.Joining.{if_some_fitting_sum_at_least_both}
 use Rattle.fallible_itertools_adapters.specs.Adjacent.{AdjacentItems}
-use Rattle.fallible_itertools_adapters.specs.BeforeStop.{HintsPastFailure, HintsWhereHeld, before_stop, held_hints, held_one, hint_unless_end}
+use Rattle.fallible_itertools_adapters.specs.BeforeStop.{HintsPastFailure, HintsWhereHeld, before_stop, held_hint_plan, held_one, hint_unless_end}
 use Rattle.fallible_itertools_adapters.specs.Laws.Plan.{Always, HeldWhereNone, ItemBuffers, NoEnd, always_weaken, failure_buffers}
 use Rattle.fallible_itertools_adapters.specs.Plan.{HintBy, HintPlan, Transition, Plan, bounded, calls, makes, plan_hint, plan_meets}
 use Rattle.fallible_itertools_adapters.specs.Staged.{as_function, followed, emitted_first, plan_does, staged}
@@ -235,5 +235,5 @@ module _ {H B : Type 0} (E : Type 0) (kept : H → Option B) (empty : H → H) (
       no_fewer_at_failure = λ h e low. few_at_failure (kept h) e _ _;
     }
 
-    pub hints_where_one_held : {V S : Type 0} (view : V → S × ((H × F) × Option (Option E))) (m : Contract S X E) (can : (Answered X E → Type 0) → H × F → Type 0) (count : ℕ) → HintsWhereHeld (parts_as view (stage_contract (bounded m) stop_comes (plan_meets call plan (λ h stop. (before_stop (kept h) stop, empty h))) can count (λ p. held p.0) (plan_hint (bounded m) (held_hints held)))) (λ s. (view s).1.1) m (λ s. (view s).0)
+    pub hints_where_one_held : {V S : Type 0} (view : V → S × ((H × F) × Option (Option E))) (m : Contract S X E) (can : (Answered X E → Type 0) → H × F → Type 0) (count : ℕ) → HintsWhereHeld (parts_as view (stage_contract (bounded m) stop_comes (plan_meets call plan (λ h stop. (before_stop (kept h) stop, empty h))) can count (λ p. held p.0) (plan_hint (bounded m) (held_hint_plan held)))) (λ s. (view s).1.1) m (λ s. (view s).0)
     hints_where_one_held view m can count = let w = hints_where_held call plan (λ h stop. (before_stop (kept h) stop, empty h)) (λ h n. n + held h) (λ h low n. min (low + held h) 1 ≤ n) makes_held (λ h n. min (n + held h) 1) (λ h o. fitting_sum o (Some (held h))) (λ h o n le. if_some_fitting_sum_at_least_both o (Some (held h)) n (held h) (n + held h) (omega arith) le (omega arith)) (λ h n k few. few) view (bounded m) can count (λ p. held p.0) in record { none_due = w.none_due; due = w.due; failure_due = w.failure_due }

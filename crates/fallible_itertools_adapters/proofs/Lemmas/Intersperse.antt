@@ -11,7 +11,7 @@ use Rattle.fallible_iterator.specs.SoundHints.{HintsAsSoundAs}
 use Rattle.fallible_iterator.specs.Sources.FromFn.{call_of_none}
 use Rattle.fallible_iterator.proofs.Lemmas.Lists.Passing.{lists_seen}
 use Rattle.fallible_iterator.proofs.Lemmas.Refusing.{lists_until_refused_seen}
-use Rattle.fallible_itertools_adapters.specs.Intersperse.{fitting, intersperse_contract, intersperse_hints, intersperse_parts, intersperse_plan, interspersed, interspersed_by, interspersed_high, interspersed_items, next_separator, separated_by, separator_cloned, unparted}
+use Rattle.fallible_itertools_adapters.specs.Intersperse.{fitting, intersperse_contract, intersperse_hint_plan, intersperse_parts, intersperse_plan, interspersed, interspersed_by, interspersed_high, interspersed_items, next_separator, separated_by, separator_cloned, unparted}
 use Rattle.fallible_itertools_adapters.specs.IntersperseWith.{CallsMakeShown, intersperse_with_contract, intersperse_with_parts, takes_none}
 use Rattle.fallible_itertools_adapters.specs.Laws.Plan.{Always}
 use Rattle.fallible_itertools_adapters.specs.Plan.{none_held, passes, plan_can, plan_hint, plan_meets}
@@ -194,5 +194,5 @@ module _ (A E : Type 0) where
     interspersed_low_below came None low = λ n after. omega (arith, after)
     interspersed_low_below came (Some x) low = λ n after. omega (arith, after)
 
-    pub hints_as_sound_interspersed : {V S : Type 0} (view : V → S × ((Bool × F) × Option A)) (m : Contract S A E) (can : (Answered A E → Type 0) → Bool × F → Type 0) (s : V) → HintsAsSoundAs (parts_as view (stage_contract m item_comes (plan_meets call intersperse_plan passes) can 2 (λ p. none_held p.0) (plan_hint m intersperse_hints))) s m (view s).0
-    hints_as_sound_interspersed view m can s = hints_as_sound_plan item_comes call intersperse_plan passes all_parted (λ came low n. all_parted came low ≤ n) intersperse_makes (λ came due n. min (interspersed_items came due n) (2 ^ 64 - 1)) interspersed_high interspersed_high_above interspersed_low_below view m can 2 (λ p. none_held p.0) intersperse_hints s refl
+    pub hints_as_sound_interspersed : {V S : Type 0} (view : V → S × ((Bool × F) × Option A)) (m : Contract S A E) (can : (Answered A E → Type 0) → Bool × F → Type 0) (s : V) → HintsAsSoundAs (parts_as view (stage_contract m item_comes (plan_meets call intersperse_plan passes) can 2 (λ p. none_held p.0) (plan_hint m intersperse_hint_plan))) s m (view s).0
+    hints_as_sound_interspersed view m can s = hints_as_sound_plan item_comes call intersperse_plan passes all_parted (λ came low n. all_parted came low ≤ n) intersperse_makes (λ came due n. min (interspersed_items came due n) (2 ^ 64 - 1)) interspersed_high interspersed_high_above interspersed_low_below view m can 2 (λ p. none_held p.0) intersperse_hint_plan s refl

@@ -8,7 +8,7 @@ use Rattle.fallible_iterator.specs.Lists.{ActsWith, Lists}
 use Rattle.fallible_iterator.specs.Picking.{call_at_two}
 use Rattle.fallible_iterator.specs.Traces.{Answered}
 use Rattle.fallible_iterator.proofs.Lemmas.Lists.Passing.{lists_seen}
-use Rattle.fallible_itertools_adapters.specs.BeforeStop.{HintsWhereHeld, held_hints, held_one}
+use Rattle.fallible_itertools_adapters.specs.BeforeStop.{HintsWhereHeld, held_hint_plan, held_one}
 use Rattle.fallible_itertools_adapters.specs.DedupBy.{same_call}
 use Rattle.fallible_itertools_adapters.specs.DedupByWithCount.{dedup_by_with_count_contract, dedup_by_with_count_parts}
 use Rattle.fallible_itertools_adapters.specs.DedupWithCount.{are_equal, dedup_with_count_contract, dedup_with_count_parts}
@@ -106,5 +106,5 @@ lists_deduped_by_with_count {E = E} {it = it} m g s f h l parts acts i = lists_s
 -- ---- the hint
 
 module _ {F A E : Type 0} (call : F → A × A → Result Bool E → F → Type 0) where
-  pub hints_counted : {V S : Type 0} (view : V → S × ((Option (ℕ × A) × F) × Option (Option E))) (m : Contract S A E) (can : (Answered A E → Type 0) → Option (ℕ × A) × F → Type 0) → HintsWhereHeld (parts_as view (stage_contract (bounded m) stop_comes (plan_meets call count_plan count_stops) can 1 (λ p. held_one p.0) (plan_hint (bounded m) (held_hints held_one)))) (λ s. (view s).1.1) m (λ s. (view s).0)
+  pub hints_counted : {V S : Type 0} (view : V → S × ((Option (ℕ × A) × F) × Option (Option E))) (m : Contract S A E) (can : (Answered A E → Type 0) → Option (ℕ × A) × F → Type 0) → HintsWhereHeld (parts_as view (stage_contract (bounded m) stop_comes (plan_meets call count_plan count_stops) can 1 (λ p. held_one p.0) (plan_hint (bounded m) (held_hint_plan held_one)))) (λ s. (view s).1.1) m (λ s. (view s).0)
   hints_counted view m can = hints_where_one_held E (λ held. held) (λ held. None) held_one (λ held. refl) call count_plan (count_buffers E) view m can 1

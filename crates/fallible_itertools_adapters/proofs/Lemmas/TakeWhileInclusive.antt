@@ -16,7 +16,7 @@ use Rattle.fallible_itertools_adapters.specs.Laws.Staging.{parts_equal_where_emi
 use Rattle.fallible_itertools_adapters.specs.Plan.{HintBy, none_held, passes, plan_can, plan_hint, plan_meets}
 use Rattle.fallible_itertools_adapters.specs.Staged.{as_function, emitted_first, plan_does, staged}
 use Rattle.fallible_itertools_adapters.specs.Staging.{DrawsUpTo, Emitted, MayMeet, due_total, ends_come, items_of, emitted_total, passes_over, stage_contract, stage_step, yields}
-use Rattle.fallible_itertools_adapters.specs.TakeWhileInclusive.{inclusive_by, inclusive_contract, inclusive_hint, inclusive_parts, inclusive_plan, taken_while_inclusive}
+use Rattle.fallible_itertools_adapters.specs.TakeWhileInclusive.{inclusive_by, inclusive_contract, inclusive_hint_plan, inclusive_parts, inclusive_plan, taken_while_inclusive}
 use Rattle.fallible_itertools_adapters.proofs.Lemmas.Plan.{plan_can_where_callable}
 use Rattle.fallible_itertools_adapters.proofs.Lemmas.PlanHints.{PlanMakes, hints_as_sound_plan, passes_at_most}
 use Rattle.fallible_itertools_adapters.proofs.Lemmas.Staged.{ends_for_good_where_ends_due, gives_plan}
@@ -167,12 +167,12 @@ module _ (X E : Type 0) where
     few_below u None low = λ n after. after
     few_below u (Some over) low = omega arith
 
-    pub hints_as_sound_inclusive : {V S : Type 0} (view : V → S × ((Unit {0} × F) × Option (Unit {0}))) (m : Contract S X E) (can : (Answered X E → Type 0) → Unit {0} × F → Type 0) (s : V) → (view s).1.1 ≡ None → HintsAsSoundAs (parts_as view (stage_contract m ends_come (plan_meets call inclusive_plan passes) can 1 (λ p. none_held p.0) (plan_hint m inclusive_hint))) s m (view s).0
-    hints_as_sound_inclusive view m can s undue = hints_as_sound_plan ends_come call inclusive_plan passes (λ u n. n) (λ u low n. min low 1 ≤ n) inclusive_makes (λ u due n. first_if_open due n) (λ u due o. o) (λ u due o n le. let none = due_total_is_zero due in if_some_at_least_of_smaller o (due_total {B = X} {E = E} ends_come items_of due + n) n (omega (arith, none)) le) few_below view m can 1 (λ p. none_held p.0) inclusive_hint s (rw undue refl)
+    pub hints_as_sound_inclusive : {V S : Type 0} (view : V → S × ((Unit {0} × F) × Option (Unit {0}))) (m : Contract S X E) (can : (Answered X E → Type 0) → Unit {0} × F → Type 0) (s : V) → (view s).1.1 ≡ None → HintsAsSoundAs (parts_as view (stage_contract m ends_come (plan_meets call inclusive_plan passes) can 1 (λ p. none_held p.0) (plan_hint m inclusive_hint_plan))) s m (view s).0
+    hints_as_sound_inclusive view m can s undue = hints_as_sound_plan ends_come call inclusive_plan passes (λ u n. n) (λ u low n. min low 1 ≤ n) inclusive_makes (λ u due n. first_if_open due n) (λ u due o. o) (λ u due o n le. let none = due_total_is_zero due in if_some_at_least_of_smaller o (due_total {B = X} {E = E} ends_come items_of due + n) n (omega (arith, none)) le) few_below view m can 1 (λ p. none_held p.0) inclusive_hint_plan s (rw undue refl)
 
-    sound_at : {S : Type 0} (m : Contract S X E) (s : S) (p : Unit {0} × F) (due : Option (Unit {0})) (h : ℕ × Option ℕ) → due ≡ Some tt → HintBy m s (inclusive_hint p.0 due) h → Brackets (stage_step ends_come (plan_meets call inclusive_plan passes) m.steps) (s, (p, due)) h
+    sound_at : {S : Type 0} (m : Contract S X E) (s : S) (p : Unit {0} × F) (due : Option (Unit {0})) (h : ℕ × Option ℕ) → due ≡ Some tt → HintBy m s (inclusive_hint_plan p.0 due) h → Brackets (stage_step ends_come (plan_meets call inclusive_plan passes) m.steps) (s, (p, due)) h
     sound_at m s p None h closed is = absurd cc
     sound_at m s p (Some over) h closed is = rw is (brackets_zero_where_no_item (stage_step ends_come (plan_meets call inclusive_plan passes) m.steps) (s, (p, Some over)) (λ x t w. let no = w.0 in cc))
 
-    pub hints_sound_where_rejected : {V S : Type 0} (view : V → S × ((Unit {0} × F) × Option (Unit {0}))) (m : Contract S X E) (can : (Answered X E → Type 0) → Unit {0} × F → Type 0) (s : V) → (view s).1.1 ≡ Some tt → SoundHints (parts_as view (stage_contract m ends_come (plan_meets call inclusive_plan passes) can 1 (λ p. none_held p.0) (plan_hint m inclusive_hint))) s
+    pub hints_sound_where_rejected : {V S : Type 0} (view : V → S × ((Unit {0} × F) × Option (Unit {0}))) (m : Contract S X E) (can : (Answered X E → Type 0) → Unit {0} × F → Type 0) (s : V) → (view s).1.1 ≡ Some tt → SoundHints (parts_as view (stage_contract m ends_come (plan_meets call inclusive_plan passes) can 1 (λ p. none_held p.0) (plan_hint m inclusive_hint_plan))) s
     hints_sound_where_rejected view m can s closed h is = brackets_seen view (stage_step ends_come (plan_meets call inclusive_plan passes) m.steps) s h (sound_at m (view s).0 (view s).1.0 (view s).1.1 h closed is)

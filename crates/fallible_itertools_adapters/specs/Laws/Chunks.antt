@@ -4,7 +4,7 @@ use Rattle.std.proofs.Common.{refl, arith}
 use Rattle.fallible_iterator.specs.Contract.{Contract, Lawful}
 use Rattle.fallible_itertools_adapters.specs.Batch.{Put, kept_of}
 use Rattle.fallible_itertools_adapters.specs.BeforeStop.{before_stop}
-use Rattle.fallible_itertools_adapters.specs.Chunks.{batch_at, batch_by, batch_held, chunks_contract, chunks_hints, chunks_plan, chunks_stops, puts, vec_count}
+use Rattle.fallible_itertools_adapters.specs.Chunks.{batch_at, batch_by, batch_held, chunks_contract, chunks_hint_plan, chunks_plan, chunks_stops, puts, vec_count}
 use Rattle.fallible_itertools_adapters.specs.Laws.Plan.{ItemWeighs, before_stop_weighs, is_stage_plan, lawful_plan}
 use Rattle.fallible_itertools_adapters.specs.Plan.{plan_meets}
 use Rattle.fallible_itertools_adapters.specs.Staging.{IsStage, stop_comes}
@@ -29,4 +29,4 @@ module _ {A E : Type 0} (from : AllocError → E → Type 0) where
   is_stage_chunks = is_stage_plan stop_comes 1 batch_held (puts from) (chunks_plan vec_count) chunks_stops (λ h x put. batch_by_weighs E vec_count h put) (λ h stop. before_stop_weighs batch_held h (h.0, None) h.1 stop refl refl)
 
   pub lawful_chunks : {S : Type 0} {m : Contract S A E} → Lawful m → Lawful (chunks_contract from m)
-  lawful_chunks l = lawful_plan l stop_comes (puts from) (chunks_plan vec_count) chunks_stops 1 batch_held chunks_hints is_stage_chunks
+  lawful_chunks l = lawful_plan l stop_comes (puts from) (chunks_plan vec_count) chunks_stops 1 batch_held chunks_hint_plan is_stage_chunks

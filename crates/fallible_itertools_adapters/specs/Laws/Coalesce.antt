@@ -3,7 +3,7 @@ use Rattle.std.specs.Prelude.{Option, Some, None, Ok, Err}
 use Rattle.std.specs.Fn.{Mut}
 use Rattle.std.proofs.Common.{arith}
 use Rattle.fallible_iterator.specs.Contract.{Contract, Lawful}
-use Rattle.fallible_itertools_adapters.specs.BeforeStop.{held_hints, held_one}
+use Rattle.fallible_itertools_adapters.specs.BeforeStop.{held_hint_plan, held_one}
 use Rattle.fallible_itertools_adapters.specs.Coalesce.{OneOrBoth, coalesce_call, coalesce_contract, coalesce_plan, coalesce_takes, coalesced_by}
 use Rattle.fallible_itertools_adapters.specs.Dedup.{dedup_stops}
 use Rattle.fallible_itertools_adapters.specs.Laws.Dedup.{dedup_stops_weighs}
@@ -25,4 +25,4 @@ pub is_stage_coalesce : {F A E : Type 0} (call : F → A × A → OneOrBoth A E 
 is_stage_coalesce {E = E} call = is_stage_buffering held_one call coalesce_plan dedup_stops (coalesce_plan_buffers E) (dedup_stops_weighs E)
 
 pub lawful_coalesce : {S A F E : Type 0} {m : Contract S A E} (g : Mut F (A × (A × Unit {0})) (OneOrBoth A E)) → Lawful m → Lawful (coalesce_contract g m)
-lawful_coalesce g l = lawful_closure (lawful_bounded l) stop_comes (coalesce_call g) coalesce_plan dedup_stops 1 held_one (held_hints held_one) (is_stage_coalesce (coalesce_call g)) (coalesce_takes g)
+lawful_coalesce g l = lawful_closure (lawful_bounded l) stop_comes (coalesce_call g) coalesce_plan dedup_stops 1 held_one (held_hint_plan held_one) (is_stage_coalesce (coalesce_call g)) (coalesce_takes g)

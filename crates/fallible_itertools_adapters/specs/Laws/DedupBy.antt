@@ -4,7 +4,7 @@ use Rattle.std.specs.Fn.{Mut}
 use Rattle.std.specs.Borrow.{Bor}
 use Rattle.std.proofs.Common.{arith}
 use Rattle.fallible_iterator.specs.Contract.{Contract, Lawful}
-use Rattle.fallible_itertools_adapters.specs.BeforeStop.{held_hints, held_one}
+use Rattle.fallible_itertools_adapters.specs.BeforeStop.{held_hint_plan, held_one}
 use Rattle.fallible_itertools_adapters.specs.Dedup.{dedup_stops}
 use Rattle.fallible_itertools_adapters.specs.DedupBy.{dedup_by_contract, dedup_by_plan, same_by, same_call, same_takes}
 use Rattle.fallible_itertools_adapters.specs.Laws.Dedup.{dedup_stops_weighs, unless_same_buffers}
@@ -25,4 +25,4 @@ pub is_stage_dedup_by : {F A E : Type 0} (call : F → A × A → Result Bool E 
 is_stage_dedup_by {E = E} call = is_stage_buffering held_one call dedup_by_plan dedup_stops (dedup_by_plan_buffers E) (dedup_stops_weighs E)
 
 pub lawful_dedup_by : {S A F E : Type 0} {m : Contract S A E} (g : Mut F (Bor A × (Bor A × Unit {0})) (Result Bool E)) → Lawful m → Lawful (dedup_by_contract g m)
-lawful_dedup_by g l = lawful_closure (lawful_bounded l) stop_comes (same_call g) dedup_by_plan dedup_stops 1 held_one (held_hints held_one) (is_stage_dedup_by (same_call g)) (same_takes g)
+lawful_dedup_by g l = lawful_closure (lawful_bounded l) stop_comes (same_call g) dedup_by_plan dedup_stops 1 held_one (held_hint_plan held_one) (is_stage_dedup_by (same_call g)) (same_takes g)

@@ -33,8 +33,8 @@ use Rattle.fallible_itertools_adapters.specs.declared.or_else.OrElse.{OrElse}
 -- ---- `Copied`
 
 -- no item makes an end
-pub copied_never_ends : {T E : Type 0} (x : Bor T) (u : Unit {0}) → copied_outcome {E = E} x u ≡ End → ⊥
-copied_never_ends x u e = cc
+pub copied_outcome_is_never_end : {T E : Type 0} (x : Bor T) (u : Unit {0}) → copied_outcome {E = E} x u ≡ End → ⊥
+copied_outcome_is_never_end x u e = cc
 
 pub passed_of_copied_is_pointed_to : {T E : Type 0} (l : List (Result (Bor T) E)) → passed copied_outcome (λ (p : Unit {0}) (x : Bor T). tt) (λ p x. p) tt l ≡ pointed_to l
 unfolding pointed_to
@@ -44,7 +44,7 @@ passed_of_copied_is_pointed_to (Err e ∷ l) = ap (λ k. Err e ∷ k) (passed_of
 
 lists_both_ends_copies : {S T E : Type 0} (front back : S → Answered (Bor T) E → S → Type 0) (l : List (Result (Bor T) E)) (s : S) → ListsBothEnds front back s l
     → ListsBothEnds (passing_step front copied_call copied_outcome) (passing_step back copied_call copied_outcome) (s, tt) (passed copied_outcome (λ (p : Unit {0}) (x : Bor T). tt) (λ p x. p) tt l)
-lists_both_ends_copies front back l s i = lists_both_ends_by_function copied_call copied_outcome copied_never_ends tt (λ x. tt) (λ x v g called. (refl, refl)) front back s l i
+lists_both_ends_copies front back l s i = lists_both_ends_by_function copied_call copied_outcome copied_outcome_is_never_end tt (λ x. tt) (λ x v g called. (refl, refl)) front back s l i
 
 pub copied_listed : {S T E : Type 0} (front back : S → Answered (Bor T) E → S → Type 0) (s : Copied S) (l : List (Result T E)) → ListsChanged copied_source pointed_to (ListsBothEnds front back) s l
     → ListsBothEnds (λ u r v. passing_step front copied_call copied_outcome (copied_parts u) r (copied_parts v)) (λ u r v. passing_step back copied_call copied_outcome (copied_parts u) r (copied_parts v)) s l
@@ -97,15 +97,15 @@ exchanged_passed_is_recovered h (Ok x ∷ l) = ap (λ k. Ok x ∷ k) (exchanged_
 exchanged_passed_is_recovered h (Err d ∷ l) = exchanged_by_outcome_is_cons_some d (h d) _ ∙ ap (λ k. cons_some (h d) k) (exchanged_passed_is_recovered h l)
 
 -- no answer of the closure makes an end
-failure_outcome_never_ends : {X D E : Type 0} (d : D) (v : Result (Option X) E) → failure_outcome d v ≡ End → ⊥
-failure_outcome_never_ends d (Ok (Some x)) e = absurd cc
-failure_outcome_never_ends d (Ok None) e = absurd cc
-failure_outcome_never_ends d (Err x) e = absurd cc
+failure_outcome_is_never_end : {X D E : Type 0} (d : D) (v : Result (Option X) E) → failure_outcome d v ≡ End → ⊥
+failure_outcome_is_never_end d (Ok (Some x)) e = absurd cc
+failure_outcome_is_never_end d (Ok None) e = absurd cc
+failure_outcome_is_never_end d (Err x) e = absurd cc
 
 lists_both_ends_recovered : {S F X D E : Type 0} (front back : S → Answered X D → S → Type 0) (g : Mut F (D × Unit {0}) (Result (Option X) E)) (s : S) (f : F) (h : D → Result (Option X) E) → Acts (call_by_value g) f h → (l : List (Result X D)) → ListsBothEnds front back s l
     → ListsBothEnds (recovering_step front (call_by_value g) or_else_outcome) (recovering_step back (call_by_value g) or_else_outcome) (s, f) (map exchanged_result (passed failure_outcome (λ (p : Unit {0}) d. h d) (λ p d. p) tt (map exchanged_result l)))
 lists_both_ends_recovered front back g s f h acts l i = lists_both_ends_of_exchanged_results (passing_step (steps_exchanged front) (call_by_value g) failure_outcome) (passing_step (steps_exchanged back) (call_by_value g) failure_outcome) (s, f) _
-    (lists_both_ends_by_function (call_by_value g) failure_outcome failure_outcome_never_ends f h acts (steps_exchanged front) (steps_exchanged back) s (map exchanged_result l) (lists_both_ends_of_exchanged_results front back s l i))
+    (lists_both_ends_by_function (call_by_value g) failure_outcome failure_outcome_is_never_end f h acts (steps_exchanged front) (steps_exchanged back) s (map exchanged_result l) (lists_both_ends_of_exchanged_results front back s l i))
 
 pub or_else_listed : {S F X D E : Type 0} (g : Mut F (D × Unit {0}) (Result (Option X) E)) (front back : S → Answered X D → S → Type 0) (s : OrElse S F) (l : List (Result X E)) → ListsRecovered (call_by_value g) (ListsBothEnds front back) s l
     → ListsBothEnds (λ u r v. recovering_step front (call_by_value g) or_else_outcome (or_else_parts u) r (or_else_parts v)) (λ u r v. recovering_step back (call_by_value g) or_else_outcome (or_else_parts u) r (or_else_parts v)) s l

@@ -4,7 +4,7 @@ use Rattle.std.specs.Fn.{Mut}
 use Rattle.std.specs.Borrow.{Bor}
 use Rattle.std.proofs.Common.{refl, arith}
 use Rattle.fallible_iterator.specs.Contract.{Contract, Lawful}
-use Rattle.fallible_itertools_adapters.specs.BeforeStop.{held_hints, held_one}
+use Rattle.fallible_itertools_adapters.specs.BeforeStop.{held_hint_plan, held_one}
 use Rattle.fallible_itertools_adapters.specs.DedupBy.{same_call, same_takes}
 use Rattle.fallible_itertools_adapters.specs.DedupByWithCount.{dedup_by_with_count_contract}
 use Rattle.fallible_itertools_adapters.specs.DedupWithCount.{are_equal, dedup_with_count_contract}
@@ -31,7 +31,7 @@ pub is_stage_count : {F A E : Type 0} (call : F → A × A → Result Bool E →
 is_stage_count {E = E} call = is_stage_buffering held_one call count_plan count_stops (count_buffers E) (count_stop_weighs E)
 
 pub lawful_dedup_with_count : {S A E : Type 0} {m : Contract S A E} (eq : A → A → Bool) → Lawful m → Lawful (dedup_with_count_contract eq m)
-lawful_dedup_with_count eq l = lawful_plan (lawful_bounded l) stop_comes (calls_function (are_equal eq)) count_plan count_stops 1 held_one (held_hints held_one) (is_stage_count (calls_function (are_equal eq)))
+lawful_dedup_with_count eq l = lawful_plan (lawful_bounded l) stop_comes (calls_function (are_equal eq)) count_plan count_stops 1 held_one (held_hint_plan held_one) (is_stage_count (calls_function (are_equal eq)))
 
 pub lawful_dedup_by_with_count : {S A F E : Type 0} {m : Contract S A E} (g : Mut F (Bor A × (Bor A × Unit {0})) (Result Bool E)) → Lawful m → Lawful (dedup_by_with_count_contract g m)
-lawful_dedup_by_with_count g l = lawful_closure (lawful_bounded l) stop_comes (same_call g) count_plan count_stops 1 held_one (held_hints held_one) (is_stage_count (same_call g)) (same_takes g)
+lawful_dedup_by_with_count g l = lawful_closure (lawful_bounded l) stop_comes (same_call g) count_plan count_stops 1 held_one (held_hint_plan held_one) (is_stage_count (same_call g)) (same_takes g)

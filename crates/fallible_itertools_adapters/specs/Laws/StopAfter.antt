@@ -55,30 +55,30 @@ module _ {S A E : Type 0} (steps : S → Answered A E → S → Type 0) where
   abbrev TakeStep : S × ℕ → Answered E A → S × ℕ → Type 0
   TakeStep = take_step (steps_exchanged steps)
 
-  take_of_step : (p q : State) (r : Answered A E) → Step p r q → TakeStep (p.0, p.1.0) (exchanged r) (q.0, q.1.0) × (q.1.1 + items_in (r ∷ []) ≡ p.1.1)
-  take_of_step (s, (zero, k)) q r w = ((ap exchanged w.0, w.1, ap (λ p. p.0) w.2), rw (w.0, w.2) (omega arith))
-  take_of_step (s, (suc n, k)) q r w = ((subst (λ (a : Answered A E). steps s a q.0) (sym (exchanged_twice r)) w.0, w.1), w.2)
+  take_step_of_stop_after_step : (p q : State) (r : Answered A E) → Step p r q → TakeStep (p.0, p.1.0) (exchanged r) (q.0, q.1.0) × (q.1.1 + items_in (r ∷ []) ≡ p.1.1)
+  take_step_of_stop_after_step (s, (zero, k)) q r w = ((ap exchanged w.0, w.1, ap (λ p. p.0) w.2), rw (w.0, w.2) (omega arith))
+  take_step_of_stop_after_step (s, (suc n, k)) q r w = ((subst (λ (a : Answered A E). steps s a q.0) (sym (exchanged_twice r)) w.0, w.1), w.2)
 
-  step_of_take : (p q : State) (r : Answered A E) → TakeStep (p.0, p.1.0) (exchanged r) (q.0, q.1.0) → q.1.1 + items_in (r ∷ []) ≡ p.1.1 → Step p r q
-  step_of_take (s, (zero, k)) (t, (j, i)) r w e = let is : r ≡ end = sym (exchanged_twice r) ∙ ap exchanged w.0 in let none : items_in (r ∷ []) ≡ 0 = ap (λ (a : Answered A E). items_in (a ∷ [])) is in let same : i ≡ k = omega (arith, e, none) in (is, w.1, rw (w.2, same) refl)
-  step_of_take (s, (suc n, k)) q r w e = (subst (λ (a : Answered A E). steps s a q.0) (exchanged_twice r) w.0, w.1, e)
+  stop_after_step_of_take_step : (p q : State) (r : Answered A E) → TakeStep (p.0, p.1.0) (exchanged r) (q.0, q.1.0) → q.1.1 + items_in (r ∷ []) ≡ p.1.1 → Step p r q
+  stop_after_step_of_take_step (s, (zero, k)) (t, (j, i)) r w e = let is : r ≡ end = sym (exchanged_twice r) ∙ ap exchanged w.0 in let none : items_in (r ∷ []) ≡ 0 = ap (λ (a : Answered A E). items_in (a ∷ [])) is in let same : i ≡ k = omega (arith, e, none) in (is, w.1, rw (w.2, same) refl)
+  stop_after_step_of_take_step (s, (suc n, k)) q r w e = (subst (λ (a : Answered A E). steps s a q.0) (exchanged_twice r) w.0, w.1, e)
 
   first_and_rest : (r : Answered A E) (rest : List (Answered A E)) → items_in (r ∷ rest) ≡ items_in (r ∷ []) + items_in rest
   first_and_rest (Ok (Some x)) rest = omega arith
   first_and_rest (Ok None) rest = omega arith
   first_and_rest (Err e) rest = omega arith
 
-  take_of_run : (trace : List (Answered A E)) (p q : State) → Run Step p trace q → Run TakeStep (p.0, p.1.0) (map exchanged trace) (q.0, q.1.0) × (q.1.1 + items_in trace ≡ p.1.1)
-  take_of_run [] p q e = (ap (λ (p : State). (p.0, p.1.0)) e, let same : p.1.1 ≡ q.1.1 = ap (λ (p : State). p.1.1) e in omega (arith, same))
-  take_of_run (r ∷ rest) p q h = let d = take_of_step p h.0 r h.1 in let k = take_of_run rest h.0 q h.2 in (((h.0.0, h.0.1.0), d.0, k.0), omega (arith, first_and_rest r rest, d.1, k.1))
+  take_run_of_stop_after_run : (trace : List (Answered A E)) (p q : State) → Run Step p trace q → Run TakeStep (p.0, p.1.0) (map exchanged trace) (q.0, q.1.0) × (q.1.1 + items_in trace ≡ p.1.1)
+  take_run_of_stop_after_run [] p q e = (ap (λ (p : State). (p.0, p.1.0)) e, let same : p.1.1 ≡ q.1.1 = ap (λ (p : State). p.1.1) e in omega (arith, same))
+  take_run_of_stop_after_run (r ∷ rest) p q h = let d = take_step_of_stop_after_step p h.0 r h.1 in let k = take_run_of_stop_after_run rest h.0 q h.2 in (((h.0.0, h.0.1.0), d.0, k.0), omega (arith, first_and_rest r rest, d.1, k.1))
 
-  run_of_take : (trace : List (Answered A E)) (p q : State) → Run TakeStep (p.0, p.1.0) (map exchanged trace) (q.0, q.1.0) → q.1.1 + items_in trace ≡ p.1.1 → Run Step p trace q
-  run_of_take [] (s, (n, k)) (t, (j, i)) e c = let same : i ≡ k = omega (arith, c) in rw (ap (λ (p : S × ℕ). p.0) e, ap (λ (p : S × ℕ). p.1) e, same) refl
-  run_of_take (r ∷ rest) p q h c = let u : State = (h.0.0, (h.0.1, q.1.1 + items_in rest)) in (u, step_of_take p u r h.1 (omega (arith, c, first_and_rest r rest)), run_of_take rest u q h.2 refl)
+  stop_after_run_of_take_run : (trace : List (Answered A E)) (p q : State) → Run TakeStep (p.0, p.1.0) (map exchanged trace) (q.0, q.1.0) → q.1.1 + items_in trace ≡ p.1.1 → Run Step p trace q
+  stop_after_run_of_take_run [] (s, (n, k)) (t, (j, i)) e c = let same : i ≡ k = omega (arith, c) in rw (ap (λ (p : S × ℕ). p.0) e, ap (λ (p : S × ℕ). p.1) e, same) refl
+  stop_after_run_of_take_run (r ∷ rest) p q h c = let u : State = (h.0.0, (h.0.1, q.1.1 + items_in rest)) in (u, stop_after_step_of_take_step p u r h.1 (omega (arith, c, first_and_rest r rest)), stop_after_run_of_take_run rest u q h.2 refl)
 
   pub stop_after_traced : {traces : S → List (Answered A E) → S → Type 0} → IsTraced steps traces → IsTraced (stop_after_step steps) (stops_after_all traces)
   stop_after_traced law p trace q = let both = take_traced (exchanged_traced law) (p.0, p.1.0) (map exchanged trace) (q.0, q.1.0) in
-      ((λ h. let k = take_of_run trace p q h in (both.0 k.0, k.1)), (λ d. run_of_take trace p q (both.1 d.0) d.1))
+      ((λ h. let k = take_run_of_stop_after_run trace p q h in (both.0 k.0, k.1)), (λ d. stop_after_run_of_take_run trace p q (both.1 d.0) d.1))
 
 pub lawful_stop_after : {S A E : Type 0} {m : Contract S A E} → Lawful m → Lawful (stop_after_contract m)
 lawful_stop_after {m = m} l = record { kept_by_draw = kept_by_draw_stop_after m l; bounded = λ p. l.bounded p.0; traced = stop_after_traced m.steps l.traced }

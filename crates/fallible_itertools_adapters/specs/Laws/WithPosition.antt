@@ -6,7 +6,7 @@ use Rattle.fallible_itertools_adapters.specs.BeforeStop.{held_one}
 use Rattle.fallible_itertools_adapters.specs.Laws.Plan.{Always, ItemBuffers, StopWeighs, before_stop_weighs, is_stage_buffering, lawful_plan}
 use Rattle.fallible_itertools_adapters.specs.Plan.{calls_nothing, plan_meets}
 use Rattle.fallible_itertools_adapters.specs.Staging.{IsStage, stop_comes}
-use Rattle.fallible_itertools_adapters.specs.WithPosition.{position_hint, position_plan, position_stops, positioned_last, with_position_contract}
+use Rattle.fallible_itertools_adapters.specs.WithPosition.{position_hint_plan, position_plan, position_stops, positioned_last, with_position_contract}
 
 module _ {A : Type 0} (E : Type 0) where
   pub position_buffers : (held : Option (Bool × A)) (x : A) → Always (λ t. ItemBuffers {E = E} held_one held t) (position_plan held x)
@@ -21,4 +21,4 @@ pub is_stage_position : {A E : Type 0} → IsStage {E = E} stop_comes (plan_meet
 is_stage_position {E = E} = is_stage_buffering held_one calls_nothing position_plan position_stops (position_buffers E) (position_stop_weighs E)
 
 pub lawful_with_position : {S A E : Type 0} {m : Contract S A E} → Lawful m → Lawful (with_position_contract m)
-lawful_with_position l = lawful_plan l stop_comes calls_nothing position_plan position_stops 1 held_one position_hint is_stage_position
+lawful_with_position l = lawful_plan l stop_comes calls_nothing position_plan position_stops 1 held_one position_hint_plan is_stage_position

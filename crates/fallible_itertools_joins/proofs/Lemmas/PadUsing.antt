@@ -18,7 +18,7 @@ use Rattle.fallible_iterator.specs.Outcome.TheVariants.{Kept, LeftOut, Failure, 
 use Rattle.fallible_iterator.specs.Passing.{passing_step}
 use Rattle.fallible_iterator.specs.Laws.Passing.{Passes, done, end_passes, failure_passes, keeps, refuses, closes, leaves_out, passes_of_pass_trace}
 use Rattle.fallible_iterator.proofs.Lemmas.Lists.ForGood.{gives_for_good_seen, lists_for_good_seen, lists_once}
-use Rattle.fallible_iterator.proofs.Lemmas.OneToOne.Map.{leaves_none_out_of_map, map_never_ends}
+use Rattle.fallible_iterator.proofs.Lemmas.OneToOne.Map.{leaves_none_out_of_map, map_outcome_is_never_end}
 use Rattle.fallible_itertools_joins.specs.Laws.ZipLongest.{is_lawful_rule_longest}
 use Rattle.fallible_itertools_joins.specs.PadUsing.{beside_index_contract, both_sides, from_index, index_step, pad_call, pad_takes, pad_using_contract, pad_using_fused, pad_using_parts, padded}
 use Rattle.fallible_itertools_joins.specs.Sides.{fused_contract, fused_steps}
@@ -209,7 +209,7 @@ hints_as_sound_pad_using {E = E} m g s h is =
     let p = pad_using_parts s in
     let both = as_sound_as_both_seen both_sides _ p.0 h (as_sound_as_both_zip_longest (fused_steps m.steps) (IndexSteps E) (no_item_after_end_of_fused m.steps) (no_item_after_end_of_indices E) (both_sides p.0) h is.0 is.1 is.4) in
     let right : Brackets (IndexSteps E) p.0.1 is.1 = subst (λ (k : ℕ × Option ℕ). Brackets (IndexSteps E) p.0.1 k) (sym is.3) (brackets_indices E p.0.1) in
-    let through = as_sound_seen pad_using_parts _ s h (as_sound_where_one_of_one _ _ _ _ (one_of_one_passing (beside_index_contract m).steps (pad_call g) map_outcome leaves_none_out_of_map map_never_ends) p tt h) in
+    let through = as_sound_seen pad_using_parts _ s h (as_sound_where_one_of_one _ _ _ _ (one_of_one_passing (beside_index_contract m).steps (pad_call g) map_outcome leaves_none_out_of_map map_outcome_is_never_end) p tt h) in
     (is.0, is.2, record { above = λ a. through.above (both.above a right.above); below = λ b. through.below (both.below b right.below) })
 
 -- ---- how long it is

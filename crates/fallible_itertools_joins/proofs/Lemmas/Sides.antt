@@ -59,13 +59,13 @@ module _ {S A E : Type 0} (steps : S → Answered A E → S → Type 0) where
   answers_first_where_gives_for_good (y ∷ l) s t r i w = i r t w
 
   module _ (R : S → List (Result A E) → Type 0) (goes : (s t : S) (r : Answered A E) (l : List (Result A E)) → R s l → steps s r t → (r ≡ first_answer l) × R t (rest_of l)) where
-    end_after_fused_end : (trace : List (Answered A E)) (s t u : S) (r : Answered A E) → R s [] → Run steps s trace t → steps t r u → r ≡ end
-    end_after_fused_end [] s t u r i ran w = (goes s u r [] i (subst (λ (z : S). steps z r u) (sym ran) w)).0
-    end_after_fused_end (a ∷ trace) s t u r i ran w = end_after_fused_end trace ran.0 t u r (goes s ran.0 a [] i ran.1).1 ran.2 w
+    ends_where_nothing_is_left : (trace : List (Answered A E)) (s t u : S) (r : Answered A E) → R s [] → Run steps s trace t → steps t r u → r ≡ end
+    ends_where_nothing_is_left [] s t u r i ran w = (goes s u r [] i (subst (λ (z : S). steps z r u) (sym ran) w)).0
+    ends_where_nothing_is_left (a ∷ trace) s t u r i ran w = ends_where_nothing_is_left trace ran.0 t u r (goes s ran.0 a [] i ran.1).1 ran.2 w
 
     -- what lists so at each draw is fused
     pub gives_for_good_where_each_answers_first : (l : List (Result A E)) (s : S) → R s l → GivesForGood steps s l
-    gives_for_good_where_each_answers_first [] s i = record { each = λ trace t u r ran w. end_after_fused_end trace s t u r i ran w }
+    gives_for_good_where_each_answers_first [] s i = record { each = λ trace t u r ran w. ends_where_nothing_is_left trace s t u r i ran w }
     gives_for_good_where_each_answers_first (y ∷ l) s i = λ r t w. let d = goes s t r (y ∷ l) i w in (d.0, gives_for_good_where_each_answers_first l t d.1)
 
 -- what a source lists, its fused source lists, and then ends alone

@@ -49,22 +49,22 @@ module _ {A B E : Type 0} (e : E) where
     abbrev by : ListsBy (longest_rule {A = A} {B = B} {E = E}) (λ k. k ≡ tt) zipped_longest
     by = lists_by_longest
 
-    pairs_first : (a : List (Result A E)) (b : List (Result B E)) (x : Option A) (y : Option B) (v : Option E) (g : F) → Ok x ≡ first_answer a → Ok y ≡ first_answer b → AsksWhereAlone call f (one_is_alone x y) v g → (g ≡ f) × Paired (zipped_longest a b) (zipped_longest (rest_of a) (rest_of b)) (Ok (longest x y)) (pair_answer x y v)
-    pairs_first a b (Some x) (Some y) (Some d) g i j m = absurd m
-    pairs_first a b (Some x) (Some y) None g i j m = let w = by.both_give a b (Some x) (Some y) (Some (Ok tt)) tt tt refl i j refl in (m, paired_where_first _ _ _ _ refl w.1 w.2)
-    pairs_first a b (Some x) None (Some d) g i j m = let w = by.both_give a b (Some x) None None tt tt refl i j refl in let said = acts tt d g m in (said.0, paired_where_first _ _ (item (Left x)) _ (ap Err said.1) w.1 w.2)
-    pairs_first a b (Some x) None None g i j m = absurd m
-    pairs_first a b None (Some y) (Some d) g i j m = let w = by.both_give a b None (Some y) None tt tt refl i j refl in let said = acts tt d g m in (said.0, paired_where_first _ _ (item (Right y)) _ (ap Err said.1) w.1 w.2)
-    pairs_first a b None (Some y) None g i j m = absurd m
-    pairs_first a b None None (Some d) g i j m = absurd m
-    pairs_first a b None None None g i j m = let w = by.both_give a b None None None tt tt refl i j refl in (m, paired_where_first _ _ _ _ refl w.1 w.2)
+    paired_at_first_answers : (a : List (Result A E)) (b : List (Result B E)) (x : Option A) (y : Option B) (v : Option E) (g : F) → Ok x ≡ first_answer a → Ok y ≡ first_answer b → AsksWhereAlone call f (one_is_alone x y) v g → (g ≡ f) × Paired (zipped_longest a b) (zipped_longest (rest_of a) (rest_of b)) (Ok (longest x y)) (pair_answer x y v)
+    paired_at_first_answers a b (Some x) (Some y) (Some d) g i j m = absurd m
+    paired_at_first_answers a b (Some x) (Some y) None g i j m = let w = by.both_give a b (Some x) (Some y) (Some (Ok tt)) tt tt refl i j refl in (m, paired_where_first _ _ _ _ refl w.1 w.2)
+    paired_at_first_answers a b (Some x) None (Some d) g i j m = let w = by.both_give a b (Some x) None None tt tt refl i j refl in let said = acts tt d g m in (said.0, paired_where_first _ _ (item (Left x)) _ (ap Err said.1) w.1 w.2)
+    paired_at_first_answers a b (Some x) None None g i j m = absurd m
+    paired_at_first_answers a b None (Some y) (Some d) g i j m = let w = by.both_give a b None (Some y) None tt tt refl i j refl in let said = acts tt d g m in (said.0, paired_where_first _ _ (item (Right y)) _ (ap Err said.1) w.1 w.2)
+    paired_at_first_answers a b None (Some y) None g i j m = absurd m
+    paired_at_first_answers a b None None (Some d) g i j m = absurd m
+    paired_at_first_answers a b None None None g i j m = let w = by.both_give a b None None None tt tt refl i j refl in (m, paired_where_first _ _ _ _ refl w.1 w.2)
 
     lists_by_pair : ListsBy (pair_rule {A = A} {B = B} call takes) (λ g. g ≡ f) (λ a b. zipped_equal e a b)
     unfolding zipped_equal
     lists_by_pair = record {
       left_fails = λ a b d is. let w = by.left_fails a b d is in paired_where_first _ _ _ _ refl w.0 w.1;
       right_fails = λ a b x d is fails. let w = by.right_fails a b x d is fails in paired_where_first _ _ _ _ refl w.0 w.1;
-      both_give = λ a b x y v k g q i j d. let w = pairs_first a b x y v g i j (subst (λ (h : F). AsksWhereAlone call h (one_is_alone x y) v g) q d) in (w.0, w.1.0, w.1.1);
+      both_give = λ a b x y v k g q i j d. let w = paired_at_first_answers a b x y v g i j (subst (λ (h : F). AsksWhereAlone call h (one_is_alone x y) v g) q d) in (w.0, w.1.0, w.1.1);
     }
 
 -- ---- hints

@@ -17,7 +17,7 @@ module _ {S U A B C E F V : Type 0} (steps : S → Answered A E → S → Type 0
 -- ---- whole traces: one side
 
 module _ {A E X S : Type 0} (gave : X → Option (Answered A E)) (held_after : Option A → X → Option A) (steps : S → Answered A E → S → Type 0) where
-  -- one place before others
+  -- one place before others: where an item was held nothing was drawn, and otherwise its draw comes first
   run_with_before_drawn : (h : Option A) (o : Option (Answered A E)) (s m t : S) (rest : List (Answered A E)) → GivesIf steps (s, h) o m → Run steps m rest t → Run steps s (before_drawn h o rest) t
   run_with_before_drawn (Some x) (Some r) s m t rest g ran = subst (λ (z : S). Run steps z rest t) g.1 ran
   run_with_before_drawn (Some x) None s m t rest g ran = subst (λ (z : S). Run steps z rest t) g ran

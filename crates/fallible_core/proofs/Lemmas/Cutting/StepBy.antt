@@ -34,10 +34,10 @@ module _ {S A E : Type 0} (steps : S → Answered A E → S → Type 0) where
 -- ---- what it lists
 
 module _ {S A E : Type 0} (steps : S → Answered A E → S → Type 0) (between : ℕ) where
-  always_gives_by_steps : (l : List (Result A E)) (s : S) (n : ℕ) → AlwaysGives (leaves_one steps between) (s, n) l → AlwaysGives (step_by_step steps) (s, (between, n)) l
-  always_gives_by_steps [] s n g = λ r q w. g r (q.0, (q.1).1) (step_by_leaves_of_step_by_trace steps {p = (s, (between, n))} {q = q} w).0
-  always_gives_by_steps (y ∷ l) s n g = λ r q w. let d = g r (q.0, (q.1).1) (step_by_leaves_of_step_by_trace steps {p = (s, (between, n))} {q = q} w).0 in
-      (d.0, subst (λ (b : ℕ). AlwaysGives (step_by_step steps) (q.0, (b, (q.1).1)) l) (sym w.1) (always_gives_by_steps l q.0 (q.1).1 d.1))
+  always_gives_of_leaves_one : (l : List (Result A E)) (s : S) (n : ℕ) → AlwaysGives (leaves_one steps between) (s, n) l → AlwaysGives (step_by_step steps) (s, (between, n)) l
+  always_gives_of_leaves_one [] s n g = λ r q w. g r (q.0, (q.1).1) (step_by_leaves_of_step_by_trace steps {p = (s, (between, n))} {q = q} w).0
+  always_gives_of_leaves_one (y ∷ l) s n g = λ r q w. let d = g r (q.0, (q.1).1) (step_by_leaves_of_step_by_trace steps {p = (s, (between, n))} {q = q} w).0 in
+      (d.0, subst (λ (b : ℕ). AlwaysGives (step_by_step steps) (q.0, (b, (q.1).1)) l) (sym w.1) (always_gives_of_leaves_one l q.0 (q.1).1 d.1))
 
 pub lists_stepped : {S A E : Type 0} (m : Contract S A E) (s : StepBy S) (between n : ℕ) (l : List (Result A E)) → step_by_parts s ≡ (s.it, (between, n)) → Lists m.steps s.it l → Lists (parts_as step_by_parts (step_by_contract m)).steps s (stepped between n l)
-lists_stepped m s between n l parts i = lists_seen step_by_parts (step_by_step m.steps) s parts refl (always_gives_by_steps m.steps between (stepped between n l) s.it n (always_gives_stepped m.steps between l n s.it i.runs))
+lists_stepped m s between n l parts i = lists_seen step_by_parts (step_by_step m.steps) s parts refl (always_gives_of_leaves_one m.steps between (stepped between n l) s.it n (always_gives_stepped m.steps between l n s.it i.runs))

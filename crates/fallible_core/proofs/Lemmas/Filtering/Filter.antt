@@ -12,10 +12,10 @@ use Rattle.fallible_contract.specs.declared.passing.Outcome.TheVariants.{End}
 use Rattle.fallible_core.specs.declared.filtering.filter.Filter.{Filter}
 
 -- no answer of the closure makes an end
-pub tested_never_ends : {X E : Type 0} (x : X) (v : Result Bool E) → tested_outcome x v ≡ End → ⊥
-tested_never_ends x (Ok true) e = absurd cc
-tested_never_ends x (Ok false) e = absurd cc
-tested_never_ends x (Err d) e = absurd cc
+pub tested_outcome_is_never_end : {X E : Type 0} (x : X) (v : Result Bool E) → tested_outcome x v ≡ End → ⊥
+tested_outcome_is_never_end x (Ok true) e = absurd cc
+tested_outcome_is_never_end x (Ok false) e = absurd cc
+tested_outcome_is_never_end x (Err d) e = absurd cc
 
 by_outcome_of_tested_is_cons_if : {X E : Type 0} (x : X) (v : Result Bool E) (l : List (Result X E)) → by_outcome (tested_outcome x v) l ≡ cons_if x v l
 by_outcome_of_tested_is_cons_if x (Ok true) l = refl

@@ -11,10 +11,10 @@ use Rattle.fallible_contract.specs.declared.passing.Outcome.TheVariants.{End}
 use Rattle.fallible_core.specs.declared.filtering.filter_map.FilterMap.{FilterMap}
 
 -- no answer of the closure makes an end
-pub filter_map_never_ends : {X B E : Type 0} (x : X) (v : Result (Option B) E) → filter_map_outcome x v ≡ End → ⊥
-filter_map_never_ends x (Ok (Some y)) e = absurd cc
-filter_map_never_ends x (Ok None) e = absurd cc
-filter_map_never_ends x (Err d) e = absurd cc
+pub filter_map_outcome_is_never_end : {X B E : Type 0} (x : X) (v : Result (Option B) E) → filter_map_outcome x v ≡ End → ⊥
+filter_map_outcome_is_never_end x (Ok (Some y)) e = absurd cc
+filter_map_outcome_is_never_end x (Ok None) e = absurd cc
+filter_map_outcome_is_never_end x (Err d) e = absurd cc
 
 by_outcome_of_filter_map_is_cons_some : {X B E : Type 0} (x : X) (v : Result (Option B) E) (l : List (Result B E)) → by_outcome (filter_map_outcome x v) l ≡ cons_some v l
 by_outcome_of_filter_map_is_cons_some x (Ok (Some y)) l = refl

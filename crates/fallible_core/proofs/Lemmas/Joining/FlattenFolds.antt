@@ -107,6 +107,7 @@ module _ {S X C B E : Type 0} (m : Contract S X E) (into : X → C → Type 0) (
       holds_after_item_begins_inner : {s u : S} {c : C} {v : V} (x : X) → m.steps s (item x) u → into x c → HoldsOfFlattenFolds (s, None) v → HoldsOfFlattenFolds (u, Some c) v
       holds_after_item_begins_inner {s = s} {u = u} {c = c} x step becomes holds = holds_each_turn_by_same_steps (flatten_step_same_where_item_begins_inner s u c x step becomes) holds
 
+      -- Of no items `ran` and `went` say that nothing changed.
       holds_after_items_joined : (items : List X) (s t : S) (p q : V × Option C) → Yields m.steps s items t → FoldsTo (goes_on JoinsOfFlattenFolds) p items q → HoldsOfFlattenFolds (s, None) p.0 → HoldsOfFlattenFolds (t, None) q.0
       holds_after_items_joined [] s t p q ran went holds = subst (λ (u : S). HoldsOfFlattenFolds (u, None) q.0) ran (subst (λ (z : V × Option C). HoldsOfFlattenFolds (s, None) z.0) went holds)
       holds_after_items_joined (x ∷ items) s t p q ran went holds = let turned = went.1 in

@@ -14,7 +14,7 @@ use Rattle.fallible_core.specs.OneToOne.Map.{map_outcome, mapped}
 use Rattle.fallible_core.specs.OneToOne.Cloned.{cloned_call, cloned_parts, cloned_contract, pointed_to}
 use Rattle.fallible_core.specs.Refusing.{ListsUntilRefused}
 use Rattle.fallible_core.proofs.Lemmas.Refusing.{IsOutcomeOrRefused, gives_passed_until_refused, lists_until_refused_seen}
-use Rattle.fallible_core.proofs.Lemmas.OneToOne.Map.{map_never_ends}
+use Rattle.fallible_core.proofs.Lemmas.OneToOne.Map.{map_outcome_is_never_end}
 use Rattle.std.specs.declared.alloc.AllocError.{AllocError}
 use Rattle.fallible_contract.specs.declared.passing.Outcome.{Outcome}
 use Rattle.fallible_contract.specs.declared.passing.Outcome.TheVariants.{Kept}
@@ -90,7 +90,7 @@ module _ {T E : Type 0} (is_clone : T → T → Type 0) (is_infallible : T → T
   -- it lists the clones
   pub lists_both_ends_clones : {S : Type 0} (front back : S → Answered (Bor T) E → S → Type 0) (asked : List (Result (Bor T × T) E)) (s : S) → All OneClone (items_listed asked) → ListsBothEnds front back s (source_list asked)
       → ListsBothEnds (passing_step front (cloned_call is_clone is_infallible from) map_outcome) (passing_step back (cloned_call is_clone is_infallible from) map_outcome) (s, tt) (passed_list map_outcome (map with_clone asked))
-  lists_both_ends_clones front back asked s all i = lists_both_ends_passed front back (cloned_call is_clone is_infallible from) map_outcome map_never_ends (map with_clone asked) s tt
+  lists_both_ends_clones front back asked s all i = lists_both_ends_passed front back (cloned_call is_clone is_infallible from) map_outcome map_outcome_is_never_end (map with_clone asked) s tt
       (λ made p q w. all_clones_given asked p q all) (subst (λ (l : List (Result (Bor T) E)). ListsBothEnds front back s l) (sym (source_list_with_clone_is_source_list asked)) i)
 
 -- ---- where a clone equals its original

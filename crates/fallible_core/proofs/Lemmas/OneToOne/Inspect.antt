@@ -13,9 +13,9 @@ use Rattle.fallible_contract.specs.declared.passing.Outcome.TheVariants.{End}
 use Rattle.fallible_core.specs.declared.one_to_one.inspect.Inspect.{Inspect}
 
 -- no answer of the closure makes an end
-pub inspect_never_ends : {X E : Type 0} (x : X) (v : Result (Unit {0}) E) → inspect_outcome x v ≡ End → ⊥
-inspect_never_ends x (Ok u) e = absurd cc
-inspect_never_ends x (Err d) e = absurd cc
+pub inspect_outcome_is_never_end : {X E : Type 0} (x : X) (v : Result (Unit {0}) E) → inspect_outcome x v ≡ End → ⊥
+inspect_outcome_is_never_end x (Ok u) e = absurd cc
+inspect_outcome_is_never_end x (Err d) e = absurd cc
 
 by_outcome_of_inspect_is_once_seen : {X E : Type 0} (x : X) (v : Result (Unit {0}) E) (l : List (Result X E)) → by_outcome (inspect_outcome x v) l ≡ once_seen x v ∷ l
 by_outcome_of_inspect_is_once_seen x (Ok u) l = refl

@@ -12,9 +12,9 @@ use Rattle.fallible_contract.specs.declared.passing.Outcome.TheVariants.{End}
 use Rattle.fallible_core.specs.declared.one_to_one.map.Map.{Map}
 
 -- no answer of the closure makes an end
-pub map_never_ends : {X B E : Type 0} (x : X) (v : Result B E) → map_outcome x v ≡ End → ⊥
-map_never_ends x (Ok y) e = absurd cc
-map_never_ends x (Err d) e = absurd cc
+pub map_outcome_is_never_end : {X B E : Type 0} (x : X) (v : Result B E) → map_outcome x v ≡ End → ⊥
+map_outcome_is_never_end x (Ok y) e = absurd cc
+map_outcome_is_never_end x (Err d) e = absurd cc
 
 by_outcome_of_map_is_cons : {X B E : Type 0} (x : X) (y : Result B E) (l : List (Result B E)) → by_outcome (map_outcome x y) l ≡ y ∷ l
 by_outcome_of_map_is_cons x (Ok y) l = refl

@@ -175,6 +175,7 @@ module _ {S U A E : Type 0} (first : Contract S A E) (second : Contract U A E) w
     lenders = let e = g.lenders in ap₂ lenders_of_both (cc) (cc);
   }
 
+-- A chain from the back is the chain of both backs in the other order, and turned twice it is itself.
 pub lawful_ends_chain : {S U A E : Type 0} {first : Contract S A E} {f : Ends S A E} {second : Contract U A E} {e : Ends U A E} → LawfulEnds first f → LawfulEnds second e → LawfulEnds (chain_contract first second) (chain_ends f e)
 lawful_ends_chain {first = first} {f = f} {second = second} {e = e} l k = record {
   front_can = λ p c. (l.front_can p.0 c.0, k.front_can p.1 c.1);

@@ -65,20 +65,20 @@ module _ {S U A E : Type 0} (steps : S → Answered A E → S → Type 0) (other
   chain_law (s, u, SecondAlone) trace (t, v, after) = (chain_trace_of_run_of_second_alone trace s u t v after, (λ p. rw (p.1, p.2) (run_from_second trace s u v p.0)))
 
 module _ {S U A E : Type 0} {steps : S → Answered A E → S → Type 0} {others : U → Answered A E → U → Type 0} {first : S → List (Answered A E) → S → Type 0} {second : U → List (Answered A E) → U → Type 0} (law : IsTraced steps first) (law_second : IsTraced others second) where
-  both_of_chain : (p : S × U × StillDrawn) (trace : List (Answered A E)) (q : S × U × StillDrawn) → ChainTrace steps others p trace q → chains_all first second p trace q
-  both_of_chain (s, u, Both) trace q (inl h) = (trace, [], (law s trace q.0).0 h.0, (law_second u [] q.1).0 (sym h.2), inl (run_of_whole_list trace, h.1, refl, h.3))
-  both_of_chain (s, u, Both) trace q (inr h) = (h.0.before_end ++ end ∷ [], h.0.second_trace, (law s (h.0.before_end ++ end ∷ []) q.0).0 h.0.first_drawn, (law_second u h.0.second_trace q.1).0 h.0.second_drawn, inr (record { before_end = h.0.before_end; second_trace = h.0.second_trace; first_drawn = run_of_whole_list (h.0.before_end ++ end ∷ []); no_end = h.0.no_end; second_drawn = run_of_whole_list h.0.second_trace; not_empty = h.0.not_empty; answers = h.0.answers }, h.1))
-  both_of_chain (s, u, FirstAlone) trace q h = (trace, [], (law s trace q.0).0 h.0, (law_second u [] q.1).0 (sym h.1), (run_of_whole_list trace, refl, h.2))
-  both_of_chain (s, u, SecondAlone) trace q h = ([], trace, (law s [] q.0).0 (sym h.1), (law_second u trace q.1).0 h.0, (run_of_whole_list trace, refl, h.2))
+  chains_all_of_chain_trace : (p : S × U × StillDrawn) (trace : List (Answered A E)) (q : S × U × StillDrawn) → ChainTrace steps others p trace q → chains_all first second p trace q
+  chains_all_of_chain_trace (s, u, Both) trace q (inl h) = (trace, [], (law s trace q.0).0 h.0, (law_second u [] q.1).0 (sym h.2), inl (run_of_whole_list trace, h.1, refl, h.3))
+  chains_all_of_chain_trace (s, u, Both) trace q (inr h) = (h.0.before_end ++ end ∷ [], h.0.second_trace, (law s (h.0.before_end ++ end ∷ []) q.0).0 h.0.first_drawn, (law_second u h.0.second_trace q.1).0 h.0.second_drawn, inr (record { before_end = h.0.before_end; second_trace = h.0.second_trace; first_drawn = run_of_whole_list (h.0.before_end ++ end ∷ []); no_end = h.0.no_end; second_drawn = run_of_whole_list h.0.second_trace; not_empty = h.0.not_empty; answers = h.0.answers }, h.1))
+  chains_all_of_chain_trace (s, u, FirstAlone) trace q h = (trace, [], (law s trace q.0).0 h.0, (law_second u [] q.1).0 (sym h.1), (run_of_whole_list trace, refl, h.2))
+  chains_all_of_chain_trace (s, u, SecondAlone) trace q h = ([], trace, (law s [] q.0).0 (sym h.1), (law_second u trace q.1).0 h.0, (run_of_whole_list trace, refl, h.2))
 
-  chain_of_both : (p : S × U × StillDrawn) (trace : List (Answered A E)) (q : S × U × StillDrawn) → chains_all first second p trace q → ChainTrace steps others p trace q
-  chain_of_both (s, u, Both) trace q (l, k, f, g, inl h) = inl (subst (λ (m : List (Answered A E)). Run steps s m q.0) (list_is_trace trace l h.0) ((law s l q.0).1 f), h.1, sym (subst (λ (m : List (Answered A E)). Run others u m q.1) (sym h.2) ((law_second u k q.1).1 g)), h.3)
-  chain_of_both (s, u, Both) trace q (l, k, f, g, inr h) = inr (record { before_end = h.0.before_end; second_trace = h.0.second_trace; first_drawn = subst (λ (m : List (Answered A E)). Run steps s m q.0) (list_is_trace (h.0.before_end ++ end ∷ []) l h.0.first_drawn) ((law s l q.0).1 f); no_end = h.0.no_end; second_drawn = subst (λ (m : List (Answered A E)). Run others u m q.1) (list_is_trace h.0.second_trace k h.0.second_drawn) ((law_second u k q.1).1 g); not_empty = h.0.not_empty; answers = h.0.answers }, h.1)
-  chain_of_both (s, u, FirstAlone) trace q (l, k, f, g, h) = (subst (λ (m : List (Answered A E)). Run steps s m q.0) (list_is_trace trace l h.0) ((law s l q.0).1 f), sym (subst (λ (m : List (Answered A E)). Run others u m q.1) (sym h.1) ((law_second u k q.1).1 g)), h.2)
-  chain_of_both (s, u, SecondAlone) trace q (l, k, f, g, h) = (subst (λ (m : List (Answered A E)). Run others u m q.1) (list_is_trace trace k h.0) ((law_second u k q.1).1 g), sym (subst (λ (m : List (Answered A E)). Run steps s m q.0) (sym h.1) ((law s l q.0).1 f)), h.2)
+  chain_trace_of_chains_all : (p : S × U × StillDrawn) (trace : List (Answered A E)) (q : S × U × StillDrawn) → chains_all first second p trace q → ChainTrace steps others p trace q
+  chain_trace_of_chains_all (s, u, Both) trace q (l, k, f, g, inl h) = inl (subst (λ (m : List (Answered A E)). Run steps s m q.0) (list_is_trace trace l h.0) ((law s l q.0).1 f), h.1, sym (subst (λ (m : List (Answered A E)). Run others u m q.1) (sym h.2) ((law_second u k q.1).1 g)), h.3)
+  chain_trace_of_chains_all (s, u, Both) trace q (l, k, f, g, inr h) = inr (record { before_end = h.0.before_end; second_trace = h.0.second_trace; first_drawn = subst (λ (m : List (Answered A E)). Run steps s m q.0) (list_is_trace (h.0.before_end ++ end ∷ []) l h.0.first_drawn) ((law s l q.0).1 f); no_end = h.0.no_end; second_drawn = subst (λ (m : List (Answered A E)). Run others u m q.1) (list_is_trace h.0.second_trace k h.0.second_drawn) ((law_second u k q.1).1 g); not_empty = h.0.not_empty; answers = h.0.answers }, h.1)
+  chain_trace_of_chains_all (s, u, FirstAlone) trace q (l, k, f, g, h) = (subst (λ (m : List (Answered A E)). Run steps s m q.0) (list_is_trace trace l h.0) ((law s l q.0).1 f), sym (subst (λ (m : List (Answered A E)). Run others u m q.1) (sym h.1) ((law_second u k q.1).1 g)), h.2)
+  chain_trace_of_chains_all (s, u, SecondAlone) trace q (l, k, f, g, h) = (subst (λ (m : List (Answered A E)). Run others u m q.1) (list_is_trace trace k h.0) ((law_second u k q.1).1 g), sym (subst (λ (m : List (Answered A E)). Run steps s m q.0) (sym h.1) ((law s l q.0).1 f)), h.2)
 
   pub chain_traced : IsTraced (chain_step steps others) (chains_all first second)
-  chain_traced p trace q = let both = chain_law steps others p trace q in ((λ ran. both_of_chain p trace q (both.0 ran)), (λ h. both.1 (chain_of_both p trace q h)))
+  chain_traced p trace q = let both = chain_law steps others p trace q in ((λ ran. chains_all_of_chain_trace p trace q (both.0 ran)), (λ h. both.1 (chain_trace_of_chains_all p trace q h)))
 
 -- seen from the back twice, the sides are as they were
 pub chain_back_twice : {S U : Type 0} (p : S × U × StillDrawn) → chain_back (chain_back p) ≡ p

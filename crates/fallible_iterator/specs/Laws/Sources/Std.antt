@@ -99,8 +99,8 @@ module _ {S A E Z : Type 0} (of_item : A → Z) (of_failure : E → Z) (can can_
   abbrev AskableAtBothEnds : S → Type 0
   AskableAtBothEnds = IsAskableAtEnds of_item of_failure can can_back gives gives_back remaining
 
-  abbrev ArrivesAtEnds : S → Answered A E → Type 0
-  ArrivesAtEnds = ComesAtEnds of_item of_failure can can_back gives gives_back remaining
+  abbrev ArrivesAtEitherEnd : S → Answered A E → Type 0
+  ArrivesAtEitherEnd = ComesAtEnds of_item of_failure can can_back gives gives_back remaining
 
   -- a draw from one end, before all others
   askable_at_both_ends_after_step : (side : Side) (s t : S) (r : Answered A E) → AskableAtBothEnds s → step_at front_step back_step side s r t → AskableAtBothEnds t
@@ -111,11 +111,11 @@ module _ {S A E Z : Type 0} (of_item : A → Z) (of_failure : E → Z) (can can_
     never_rises_back = λ drawn u v ran. c.never_rises_back ((side, r) ∷ drawn) u v (t, w, ran);
   }
 
-  arrives_at_ends_at_once : (side : Side) (s t : S) (r : Answered A E) → step_at front_step back_step side s r t → ArrivesAtEnds s r
-  arrives_at_ends_at_once side s t r w = record { before = []; from = s; side = side; after = t; ran = refl; drawn = w }
+  arrives_at_either_end_at_once : (side : Side) (s t : S) (r : Answered A E) → step_at front_step back_step side s r t → ArrivesAtEitherEnd s r
+  arrives_at_either_end_at_once side s t r w = record { before = []; from = s; side = side; after = t; ran = refl; drawn = w }
 
-  arrives_at_ends_later : (side : Side) (s t : S) (r q : Answered A E) → step_at front_step back_step side s r t → ArrivesAtEnds t q → ArrivesAtEnds s q
-  arrives_at_ends_later side s t r q w c = record { before = (side, r) ∷ c.before; from = c.from; side = c.side; after = c.after; ran = (t, w, c.ran); drawn = c.drawn }
+  arrives_at_either_end_later : (side : Side) (s t : S) (r q : Answered A E) → step_at front_step back_step side s r t → ArrivesAtEitherEnd t q → ArrivesAtEitherEnd s q
+  arrives_at_either_end_later side s t r q w c = record { before = (side, r) ∷ c.before; from = c.from; side = c.side; after = c.after; ran = (t, w, c.ran); drawn = c.drawn }
 
   -- draws from the front alone are draws from either end
   run_at_ends_of_front : (trace : List (Answered A E)) (s t : S) → Run front_step s trace t → RunAtEnds front_step back_step s (map (λ r. (Front, r)) trace) t
@@ -128,20 +128,20 @@ module _ {S A E Z : Type 0} (of_item : A → Z) (of_failure : E → Z) (can can_
     never_rises = λ trace t u ran. c.never_rises (map (λ r. (Front, r)) trace) t u (run_at_ends_of_front trace s t ran);
   }
 
-  arrives_at_ends_of_comes : (s : S) (r : Answered A E) → Comes of_item of_failure can gives remaining s r → ArrivesAtEnds s r
-  arrives_at_ends_of_comes s r c = record { before = map (λ q. (Front, q)) c.before; from = c.from; side = Front; after = c.after; ran = run_at_ends_of_front c.before s c.from c.ran; drawn = c.drawn }
+  arrives_at_either_end_of_comes : (s : S) (r : Answered A E) → Comes of_item of_failure can gives remaining s r → ArrivesAtEitherEnd s r
+  arrives_at_either_end_of_comes s r c = record { before = map (λ q. (Front, q)) c.before; from = c.from; side = Front; after = c.after; ran = run_at_ends_of_front c.before s c.from c.ran; drawn = c.drawn }
 
-  follows_draw_at_both_ends_front : FollowsDraw of_item of_failure can gives remaining AskableAtBothEnds ArrivesAtEnds
-  follows_draw_at_both_ends_front = record { again = askable_at_both_ends_after_step Front; never_rises = λ s t c w. c.never_rises [] s t refl w; here = arrives_at_ends_at_once Front; later = arrives_at_ends_later Front }
+  follows_draw_at_both_ends_front : FollowsDraw of_item of_failure can gives remaining AskableAtBothEnds ArrivesAtEitherEnd
+  follows_draw_at_both_ends_front = record { again = askable_at_both_ends_after_step Front; never_rises = λ s t c w. c.never_rises [] s t refl w; here = arrives_at_either_end_at_once Front; later = arrives_at_either_end_later Front }
 
-  follows_draw_at_both_ends_back : FollowsDraw of_item of_failure can_back gives_back remaining AskableAtBothEnds ArrivesAtEnds
-  follows_draw_at_both_ends_back = record { again = askable_at_both_ends_after_step Back; never_rises = λ s t c w. c.never_rises_back [] s t refl w; here = arrives_at_ends_at_once Back; later = arrives_at_ends_later Back }
+  follows_draw_at_both_ends_back : FollowsDraw of_item of_failure can_back gives_back remaining AskableAtBothEnds ArrivesAtEitherEnd
+  follows_draw_at_both_ends_back = record { again = askable_at_both_ends_after_step Back; never_rises = λ s t c w. c.never_rises_back [] s t refl w; here = arrives_at_either_end_at_once Back; later = arrives_at_either_end_later Back }
 
   pub lawful_ends_std : LawfulEnds (std_contract {A = A} {E = E} of_item of_failure can gives remaining) (std_ends of_item of_failure can can_back gives gives_back remaining)
   lawful_ends_std = record {
     front_can = is_askable_of_at_ends;
-    may_give = λ s x. arrives_at_ends_of_comes s (item x);
-    may_fail = λ s e. arrives_at_ends_of_comes s (failure e);
-    front = lawful_contract_over_by_follows_draw of_item of_failure can gives remaining AskableAtBothEnds ArrivesAtEnds follows_draw_at_both_ends_front;
-    back = lawful_contract_over_by_follows_draw of_item of_failure can_back gives_back remaining AskableAtBothEnds ArrivesAtEnds follows_draw_at_both_ends_back;
+    may_give = λ s x. arrives_at_either_end_of_comes s (item x);
+    may_fail = λ s e. arrives_at_either_end_of_comes s (failure e);
+    front = lawful_contract_over_by_follows_draw of_item of_failure can gives remaining AskableAtBothEnds ArrivesAtEitherEnd follows_draw_at_both_ends_front;
+    back = lawful_contract_over_by_follows_draw of_item of_failure can_back gives_back remaining AskableAtBothEnds ArrivesAtEitherEnd follows_draw_at_both_ends_back;
   }

@@ -30,10 +30,10 @@ returns-in-Err-sum_up_more g c =
     let filled = held + c.in-Ok.count in
     let h = so_far_after_read c.loop-read.buffer buffer held c.in-Ok.count inv.so_far came.0 came.2 in
     let within = came.1 in
-    let most = c.end_of_read.ensures.room.1 in
+    let most = c.filled_by_read.ensures.room.1 in
     let room : filled ≤ length buffer = omega (arith, c.read_after.ensures.room, inv.room, within, most) in
     let read : FilledSoFar (left c.args.reader.now) (left c.read_after.new.reader) buffer filled c.loop-read.totals = record { so_far = h; room = room } in
-    read_bad read (λ none. let first = c.end_of_read.ensures.first none in omega (arith, within, first)) (omega (arith, within, most)) (sym c.in-Err-sum_up_more.is ∙ c.sum_up_more-in-Ok.ensures h.whole h.good h.long)
+    read_bad read (λ none. let first = c.filled_by_read.ensures.first none in omega (arith, within, first)) (omega (arith, within, most)) (sym c.in-Err-sum_up_more.is ∙ c.sum_up_more-in-Ok.ensures h.whole h.good h.long)
 
 pub returns-in-Err : goal.returns-in-Err
 returns-in-Err g c =
@@ -67,7 +67,7 @@ loop-read-preserved g c =
     let h = so_far_after_read c.loop-read.buffer buffer held c.in-Ok.count inv.so_far came.0 came.2 in
     let within = came.1 in
     let some = c.in-Ok.count-test.1 in
-    let most = c.end_of_read.ensures.room.1 in
+    let most = c.filled_by_read.ensures.room.1 in
     let room : filled ≤ length buffer = omega (arith, long, full, within, most) in
     let read : FilledSoFar (left c.args.reader.now) (left c.read_after.new.reader) buffer filled c.loop-read.totals = record { so_far = h; room = room } in
     let is = sym c.in-Ok-sum_up_more.is ∙ c.sum_up_more-in-Ok.ensures h.whole h.good h.long in
