@@ -38,16 +38,16 @@ unfoldable pub first_least : {A E : Type 0} → (A → A → Ordering) → List 
 first_least cmp l = best_by Less (λ x y. Ok (or_less (cmp x y))) l
 
 -- a least and a greatest item, where there are both
-abbrev pub both_of : {A : Type 0} → Option A → Option A → MinMaxResult A
-both_of (Some a) (Some b) = MinMax a b
-both_of (Some a) None = NoElements
-both_of None b = NoElements
+abbrev pub minmax_of : {A : Type 0} → Option A → Option A → MinMaxResult A
+minmax_of (Some a) (Some b) = MinMax a b
+minmax_of (Some a) None = NoElements
+minmax_of None b = NoElements
 
 -- nothing of no items, and the item of one; of more the first of the least ones and the last of the greatest ones; or the first failure
 unfoldable pub minmaxed : {A E : Type 0} → (A → A → Ordering) → List (Result A E) → Result (MinMaxResult A) E
 minmaxed cmp [] = Ok NoElements
 minmaxed cmp (Ok x ∷ []) = Ok (OneElement x)
-minmaxed cmp (y ∷ l) = on_value (first_least cmp (y ∷ l)) (λ a. on_value (greatest cmp (y ∷ l)) (λ b. Ok (both_of a b)))
+minmaxed cmp (y ∷ l) = on_value (first_least cmp (y ∷ l)) (λ a. on_value (greatest cmp (y ∷ l)) (λ b. Ok (minmax_of a b)))
 
 -- at an end what the items make, or the failure
 abbrev pub MinMaxExit : {A E : Type 0} → (A → A → Ordering) → List A → Answered A E → Result (MinMaxResult A) E → Type 0

@@ -10,9 +10,9 @@ abbrev pub Put : Type 0 → Type 0 → Type 0
 Put V E = Result V (Option V × E)
 
 -- what was held, as it is without the item
-abbrev pub kept_of : {V : Type 0} → Option V → Option V → Option V
-kept_of (Some v) kept = kept
-kept_of None kept = None
+abbrev pub held_without_item : {V : Type 0} → Option V → Option V → Option V
+held_without_item (Some v) kept = kept
+held_without_item None kept = None
 
 module _ {A : Type 0} where
   -- the items that are held, none where no `Vec` is

@@ -24,9 +24,9 @@ KeyedPut K V E = Result (K × Put V E) E
 
 module _ {K V : Type 0} where
   -- the items that an item of the key k is put after: those of the group that is held, where its key equals k
-  abbrev pub joined : (K → K → Bool) → Option (K × V) → K → Option V
-  joined eq None k = None
-  joined eq (Some g) k = cond (eq g.0 k) (Some g.1) None
+  abbrev pub items_of_key : (K → K → Bool) → Option (K × V) → K → Option V
+  items_of_key eq None k = None
+  items_of_key eq (Some g) k = cond (eq g.0 k) (Some g.1) None
 
   -- the group that is held, with its items as they are without the item that was to go into it
   abbrev pub group_kept : Option (K × V) → Option V → Option (K × V)
@@ -68,7 +68,7 @@ takes_key g f q = takes_by_reference g f q.1
 module _ {F A K E : Type 0} (from : AllocError → E → Type 0) (eq : K → K → Bool) (g : Mut F (Bor A × Unit {0}) (Result K E)) where
   -- The closure is called once, and an item with a key is put after those of its group.
   abbrev pub puts_by_key : F → Option (Group K A) × A → KeyedPut K (Vec A Global) E → F → Type 0
-  puts_by_key f q (Ok (k, v)) h = call_by_reference g f q.1 (Ok k) h × Puts from (joined eq q.0 k) q.1 v
+  puts_by_key f q (Ok (k, v)) h = call_by_reference g f q.1 (Ok k) h × Puts from (items_of_key eq q.0 k) q.1 v
   puts_by_key f q (Err e) h = call_by_reference g f q.1 (Err e) h
 
   -- `ChunkBy`: the items in groups, each where the next key differs or a stop stands. The closure's failure and a failed allocation are stops. The parts are the source, the group that is held beside the closure, and the stop that is due.
@@ -84,7 +84,7 @@ module _ {F A K E : Type 0} (from : AllocError → E → Type 0) (eq : K → K �
 module _ {A K E : Type 0} (eq : K → K → Bool) (h : A → Result K E) where
   -- what an item gives by its key
   abbrev pub put_by_key : Option (K × List A) → A → Result K E → KeyedPut K (List A) E
-  put_by_key held x (Ok k) = Ok (k, put_last (joined eq held k) x)
+  put_by_key held x (Ok k) = Ok (k, put_last (items_of_key eq held k) x)
   put_by_key held x (Err e) = Err e
 
   -- the adjacent items with equal keys, as h makes them, each group with its key; before a failure of the list or of h comes the group that is held, so a failure parts groups

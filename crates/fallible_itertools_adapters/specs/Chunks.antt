@@ -3,7 +3,7 @@ use Rattle.std.specs.Prelude.{◌≡◌, ℕ, ◌+◌, ◌-◌, ◌/◌, ◌<◌
 use Rattle.fallible_iterator.specs.Traces.{Answered, item}
 use Rattle.fallible_iterator.specs.Contract.{Contract, Inverse}
 use Rattle.fallible_iterator.specs.Hints.{fitting_sum}
-use Rattle.fallible_itertools_adapters.specs.Batch.{Put, Puts, kept_of, put_last}
+use Rattle.fallible_itertools_adapters.specs.Batch.{Put, Puts, held_without_item, put_last}
 use Rattle.fallible_itertools_adapters.specs.BeforeStop.{before_stop, held_one, hint_unless_end}
 use Rattle.fallible_itertools_adapters.specs.Plan.{HintPlan, Transition, Plan, calls, plan_contract, plan_meets}
 use Rattle.fallible_itertools_adapters.specs.Staged.{as_function, plan_does, staged}
@@ -25,7 +25,7 @@ module _ {V E : Type 0} where
   -- The batch with the item, by how many it has then. If an allocation failed the item is lost, and that is a stop.
   abbrev pub batch_by : (V → ℕ) → ℕ × Option V → Put V E → Transition (ℕ × Option V) V (Option E) E
   batch_by count h (Ok v) = batch_at h.0 v (ltb (count v) h.0)
-  batch_by count h (Err (kept, e)) = (before_stop (kept_of h.1 kept) (Some e), (h.0, None))
+  batch_by count h (Err (kept, e)) = (before_stop (held_without_item h.1 kept) (Some e), (h.0, None))
 
   -- Each item is put after those of the batch that is held.
   abbrev pub chunks_plan : {A : Type 0} → (V → ℕ) → ℕ × Option V → A → Plan (Option V × A) (Put V E) (Transition (ℕ × Option V) V (Option E) E)

@@ -6,7 +6,7 @@ ghost use Rattle.fallible_iterator.specs.Contract.{parts_as};
 ghost use Rattle.fallible_iterator.specs.Laws.Contract.{lawful_parts};
 ghost use Rattle.fallible_itertools_adapters.specs.Batch.{Put, Puts};
 ghost use Rattle.fallible_itertools_adapters.specs.BeforeStop.{held_one};
-ghost use Rattle.fallible_itertools_adapters.specs.ChunkBy.{chunk_by_contract, chunk_by_made, chunk_by_parts, chunk_by_plan, chunk_by_stops, group_by, joined, puts_by_key, takes_key};
+ghost use Rattle.fallible_itertools_adapters.specs.ChunkBy.{chunk_by_contract, chunk_by_made, chunk_by_parts, chunk_by_plan, chunk_by_stops, group_by, items_of_key, puts_by_key, takes_key};
 ghost use Rattle.fallible_itertools_adapters.specs.Laws.ChunkBy.{is_stage_chunk_by, lawful_chunk_by};
 ghost use Rattle.fallible_itertools_adapters.specs.Plan.{IsTransition, plan_item, plan_stop, plan_takes};
 ghost use Rattle.fallible_itertools_adapters.specs.Staging.{stop_comes};
@@ -154,7 +154,7 @@ fn grouped<X: Drop, K: PartialEq + Drop, E: From<AllocError>>(
     key: K,
     item: X,
 ) -> Emitted<(K, Vec<X>), Stop<E>, E>
-    ensures { (v : Put (Vec X Global) E) × Puts E.from_gives (joined K.eq group.old key) item v
+    ensures { (v : Put (Vec X Global) E) × Puts E.from_gives (items_of_key K.eq group.old key) item v
         × IsTransition (group_by K.eq group.old (Ok (key, v))) result group.new }
 {
     let room = match group {

@@ -297,14 +297,14 @@ by_ordering less equal greater Equal = equal
 by_ordering less equal greater Greater = greater
 
 -- What is taken of two items: the left's by `Less`, the right's by `Greater`, and both by `Equal`.
-abbrev pub taken : {A B : Type 0} → A → B → Ordering → EitherOrBoth A B
-taken x y o = by_ordering (Left x) (Both x y) (Right y) o
+abbrev pub taken_of_two : {A B : Type 0} → A → B → Ordering → EitherOrBoth A B
+taken_of_two x y o = by_ordering (Left x) (Both x y) (Right y) o
 
 -- P holds of the left's item, and Q of the right's
-abbrev pub OfEach : {A B : Type 0} → (A → Type 0) → (B → Type 0) → EitherOrBoth A B → Type 0
-OfEach P Q (Both x y) = P x × Q y
-OfEach P Q (Left x) = P x
-OfEach P Q (Right y) = Q y
+abbrev pub OfEachSide : {A B : Type 0} → (A → Type 0) → (B → Type 0) → EitherOrBoth A B → Type 0
+OfEachSide P Q (Both x y) = P x × Q y
+OfEachSide P Q (Left x) = P x
+OfEachSide P Q (Right y) = Q y
 
 module _ {K E : Type 0} (order : K → Ordering) where
   -- the left's item alone is taken by what was said of both
@@ -322,7 +322,7 @@ module _ {K E : Type 0} (order : K → Ordering) where
   module _ {A B C : Type 0} (makes : EitherOrBoth A B → C) where
     -- what is made of what is taken of two items, or the failure
     abbrev pub joined_of_two : A → B → Option (Result K E) → Answered C E
-    joined_of_two x y (Some (Ok k)) = item (makes (taken x y (order k)))
+    joined_of_two x y (Some (Ok k)) = item (makes (taken_of_two x y (order k)))
     joined_of_two x y (Some (Err e)) = failure e
     joined_of_two x y None = item (makes (Both x y))
 
@@ -335,7 +335,7 @@ module _ {K E : Type 0} (order : K → Ordering) where
 
     -- what is made of what is taken of x and y, before the list `left` where the left's is taken, `right` where the right's is, and `after` where both are; or the failure before `after`
     abbrev pub taken_before : Result K E → A → B → List (Result C E) → List (Result C E) → List (Result C E) → List (Result C E)
-    taken_before (Ok k) x y left right after = Ok (makes (taken x y (order k))) ∷ by_ordering left after right (order k)
+    taken_before (Ok k) x y left right after = Ok (makes (taken_of_two x y (order k))) ∷ by_ordering left after right (order k)
     taken_before (Err e) x y left right after = Err e ∷ after
 
     -- the first list's item x among the items of b: those of b that are taken before it, with the failures met there, and then x, alone or with the item of b that is taken with it; `rest` makes of what is left of b what comes after that, and after a failure of h, which loses x and the item of b

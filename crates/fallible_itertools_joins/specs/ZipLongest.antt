@@ -4,7 +4,7 @@ use Rattle.std.specs.declared.cmp.Ordering.TheVariants.{Equal}
 use Rattle.fallible_iterator.specs.Traces.{Answered}
 use Rattle.fallible_iterator.specs.Contract.{Contract}
 use Rattle.fallible_iterator.specs.Fuse.{Fuse}
-use Rattle.fallible_itertools_joins.specs.Sides.{Join, OfEach, Rule, SidesTrace, fused_contract, fused_steps, sides_contract, side_parts, join_rule, taken_among}
+use Rattle.fallible_itertools_joins.specs.Sides.{Join, OfEachSide, Rule, SidesTrace, fused_contract, fused_steps, sides_contract, side_parts, join_rule, taken_among}
 use Rattle.fallible_itertools_joins.specs.declared.zip_longest.EitherOrBoth.{EitherOrBoth}
 use Rattle.fallible_itertools_joins.specs.declared.zip_longest.EitherOrBoth.TheVariants.{Both, Left, Right}
 use Rattle.fallible_itertools_joins.specs.declared.zip_longest.ZipLongest.{ZipLongest}
@@ -52,7 +52,7 @@ only_right (Right y) = Some y
 
 -- both items are taken, without a call
 abbrev pub longest_join : {A B E : Type 0} → Join A B (EitherOrBoth A B) E (Unit {0}) (Unit {0})
-longest_join = record { says = λ f x y v g. v ≡ Ok tt; order = λ k. Equal; makes = λ t. t; askable = λ P Q f. ⊤; gives = OfEach; refuses = λ P Q f e. ⊥ }
+longest_join = record { says = λ f x y v g. v ≡ Ok tt; order = λ k. Equal; makes = λ t. t; askable = λ P Q f. ⊤; gives = OfEachSide; refuses = λ P Q f e. ⊥ }
 
 -- The rule of `ZipLongest`: that of `MergeJoinBy`, where both items are taken without a call.
 abbrev pub longest_rule : {A B E : Type 0} → Rule A B (EitherOrBoth A B) E (Unit {0}) (Option (Result (Unit {0}) E))

@@ -10,7 +10,7 @@ use Rattle.fallible_iterator.specs.Picking.{better}
 use Rattle.fallible_iterator.specs.Lists.{Lists, on_value, folded, pick_of, best_by, greatest}
 use Rattle.fallible_iterator.proofs.Lemmas.Folds.{drained_by_implication, driven_by_item_first, fold_of_references_drives_values}
 use Rattle.fallible_iterator.proofs.Lemmas.Lists.Drawn.{RestAt, drawn_of_lists}
-use Rattle.fallible_itertools.specs.MinMax.{WidensBoth, with_item, or_less, first_least, both_of, minmaxed, MinMaxExit, MinMaxDrains}
+use Rattle.fallible_itertools.specs.MinMax.{WidensBoth, with_item, or_less, first_least, minmax_of, minmaxed, MinMaxExit, MinMaxDrains}
 use Rattle.std.specs.declared.cmp.Ordering.{Ordering}
 use Rattle.std.specs.declared.cmp.Ordering.TheVariants.{Less, Equal, Greater}
 use Rattle.std.specs.declared.ops.ControlFlow.{ControlFlow}
@@ -87,8 +87,8 @@ module _ {A : Type 0} {cmp : A → A → Ordering} (o : IsTotalOrder cmp) where
         let s = min_max_step_of_item_from_one (cmp x y) x y refl in
         let second : FoldsTo (goes_on (WidensTo R)) (MinMax (better Less (or_less (cmp x y)) x y) (better Greater (cmp x y) x y)) items d = subst (λ (c : MinMaxResult A). FoldsTo (goes_on (WidensTo R)) c items d) (w.2.1.1 ∙ ap (λ (c : MinMaxResult A). with_item cmp c y) w.1.1 ∙ s.0) w.2.2 in
         let is = min_max_after_items items (better Less (or_less (cmp x y)) x y) (better Greater (cmp x y) x y) d s.1 second in
-        ap Ok is ∙ sym (ap (λ (r : Result (Option A) E). on_value r (λ a. on_value (folded (λ (e : E). e) (pick_answer Greater cmp) (Some (better Greater (cmp x y) x y)) (map (λ z. Ok z) items)) (λ b. Ok (both_of a b)))) (folded_is_best_of_fold Less or_less_by items (better Less (or_less (cmp x y)) x y))
-        ∙ ap (λ (r : Result (Option A) E). on_value r (λ b. Ok (both_of (Some (best_of_fold Less or_less_by (better Less (or_less (cmp x y)) x y) items)) b))) (folded_is_best_of_fold Greater cmp items (better Greater (cmp x y) x y)))
+        ap Ok is ∙ sym (ap (λ (r : Result (Option A) E). on_value r (λ a. on_value (folded (λ (e : E). e) (pick_answer Greater cmp) (Some (better Greater (cmp x y) x y)) (map (λ z. Ok z) items)) (λ b. Ok (minmax_of a b)))) (folded_is_best_of_fold Less or_less_by items (better Less (or_less (cmp x y)) x y))
+        ∙ ap (λ (r : Result (Option A) E). on_value r (λ b. Ok (minmax_of (Some (best_of_fold Less or_less_by (better Less (or_less (cmp x y)) x y) items)) b))) (folded_is_best_of_fold Greater cmp items (better Greater (cmp x y) x y)))
 
     module _ {E : Type 0} (c : MinMaxResult A) where
       min_max_exit_end : (items : List A) (last : Answered A E) (d : MinMaxResult A) → FoldsTo (goes_on (WidensTo R)) NoElements items d → DriveExit (WidensTo R) d last (Ok None) c → MinMaxExit cmp items last (Ok c)
@@ -118,7 +118,7 @@ minmaxed_fails_at_failure : {A E : Type 0} (cmp : A → A → Ordering) (items :
 unfolding minmaxed first_least greatest best_by folded
 minmaxed_fails_at_failure cmp [] e rest = refl
 minmaxed_fails_at_failure {A = A} {E = E} cmp (x ∷ []) e rest = refl
-minmaxed_fails_at_failure {A = A} {E = E} cmp (x ∷ y ∷ items) e rest = ap (λ (r : Result (Option A) E). on_value r (λ a. on_value (folded (λ (d : E). d) (pick_answer Greater cmp) (Some (better Greater (cmp x y) x y)) (map (λ z. Ok z) items ++ Err e ∷ rest)) (λ b. Ok (both_of a b)))) (folded_fails_at_failure Less (λ y z. or_less (cmp y z)) items (Some (better Less (or_less (cmp x y)) x y)) e rest)
+minmaxed_fails_at_failure {A = A} {E = E} cmp (x ∷ y ∷ items) e rest = ap (λ (r : Result (Option A) E). on_value r (λ a. on_value (folded (λ (d : E). d) (pick_answer Greater cmp) (Some (better Greater (cmp x y) x y)) (map (λ z. Ok z) items ++ Err e ∷ rest)) (λ b. Ok (minmax_of a b)))) (folded_fails_at_failure Less (λ y z. or_less (cmp y z)) items (Some (better Less (or_less (cmp x y)) x y)) e rest)
 
 minmaxed_of_exit : {A E : Type 0} (cmp : A → A → Ordering) (items : List A) (last : Answered A E) (r : Result (MinMaxResult A) E) (rest : List (Result A E)) → RestAt last rest → MinMaxExit cmp items last r → r ≡ minmaxed cmp (map (λ x. Ok x) items ++ rest)
 minmaxed_of_exit cmp items (Ok None) r rest left exit = exit ∙ sym (ap (minmaxed cmp) (ap (λ (k : List (Result _ _)). map (λ x. Ok x) items ++ k) left ∙ append-nil (map (λ x. Ok x) items)))

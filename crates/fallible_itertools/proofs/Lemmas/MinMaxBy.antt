@@ -10,7 +10,7 @@ use Rattle.fallible_iterator.specs.Picking.{better}
 use Rattle.fallible_iterator.proofs.Lemmas.Folds.{callable_driving_through, driven_by_item_first, driven_end, driven_failure, driven_of_first_break, fold_drains_ended, fold_drains_failed, fold_drains_stopped, fold_of_references_drives_values, holds_at_first_turn, holds_each_turn_after_item}
 use Rattle.fallible_iterator.proofs.Lemmas.Lists.Drawn.{folded_of_lists}
 use Rattle.fallible_itertools.specs.Keyed.{with_key, keyed}
-use Rattle.fallible_itertools.specs.MinMax.{with_item, or_less, first_least, both_of, minmaxed}
+use Rattle.fallible_itertools.specs.MinMax.{with_item, or_less, first_least, minmax_of, minmaxed}
 use Rattle.fallible_itertools.specs.MinMaxBy.{two_in_order, greatest_in_order, AfterLeast, MinMaxCall, WidensBothBy, with_item_by, minmaxed_by, with_keyed, MinMaxKeyCall, MinMaxKeyDrains, without_keys, minmaxed_by_key}
 use Rattle.fallible_itertools.proofs.Lemmas.MinMax.{min_max_step_of_item, min_max_step_of_item_from_one}
 use Rattle.std.specs.declared.cmp.Ordering.{Ordering}
@@ -69,7 +69,7 @@ module _ {A : Type 0} {cmp : A → A → Ordering} (o : IsTotalOrder cmp) (E : T
 
   -- the two folds from a least and a greatest item on
   abbrev both_from : A → A → List (Result A E) → Result (MinMaxResult A) E
-  both_from a b l = on_value (folded (λ (e : E). e) (pick_of Less (λ x y. Ok (or_less (cmp x y)))) (Some a) l) (λ p. on_value (folded (λ (e : E). e) (pick_of Greater (λ x y. Ok (cmp x y))) (Some b) l) (λ q. Ok (both_of p q)))
+  both_from a b l = on_value (folded (λ (e : E). e) (pick_of Less (λ x y. Ok (or_less (cmp x y)))) (Some a) l) (λ p. on_value (folded (λ (e : E). e) (pick_of Greater (λ x y. Ok (cmp x y))) (Some b) l) (λ q. Ok (minmax_of p q)))
 
   folded_from_both_is_both_from : (l : List (Result A E)) (a b : A) → is_gt (cmp a b) ≡ false → folded (λ (e : E). e) kept_by_order (MinMax a b) l ≡ both_from a b l
   unfolding folded

@@ -13,7 +13,7 @@ use Rattle.fallible_iterator.specs.Making.{ListsMade}
 use Rattle.fallible_iterator.proofs.Lemmas.Making.{lists_made_seen}
 use Rattle.fallible_itertools_adapters.specs.Batch.{Grown, NoRoom, Put, Puts}
 use Rattle.fallible_itertools_adapters.specs.BeforeStop.{HintsWhereHeld, before_stop, held_one}
-use Rattle.fallible_itertools_adapters.specs.ChunkBy.{Group, KeyedPut, MadeGroup, chunk_by_contract, chunk_by_due, chunk_by_parts, chunk_by_plan, chunk_by_source, chunk_by_stops, chunked_by, group_at, group_by, group_kept, joined, put_by_key, puts_by_key, takes_key}
+use Rattle.fallible_itertools_adapters.specs.ChunkBy.{Group, KeyedPut, MadeGroup, chunk_by_contract, chunk_by_due, chunk_by_parts, chunk_by_plan, chunk_by_source, chunk_by_stops, chunked_by, group_at, group_by, group_kept, items_of_key, put_by_key, puts_by_key, takes_key}
 use Rattle.fallible_itertools_adapters.specs.Laws.ChunkBy.{group_by_buffers}
 use Rattle.fallible_itertools_adapters.specs.Plan.{IsTransition, Transition, plan_can}
 use Rattle.fallible_itertools_adapters.specs.Staging.{Emitted, MayMeet, one_emitted}
@@ -31,7 +31,7 @@ use Rattle.fallible_itertools_adapters.specs.declared.chunk_by.ChunkBy.{ChunkBy}
 module _ {A K E : Type 0} (from : AllocError → E → Type 0) (eq : K → K → Bool) where
   -- what becomes of an item of the key k
   abbrev pub IsGrouped : Option (Group K A) → K → A → Emitted (Group K A) (Option E) E → Option (Group K A) → Type 0
-  IsGrouped held k x emitted q = (v : Put (Vec A Global) E) × Puts from (joined eq held k) x v × IsTransition (group_by eq held (Ok (k, v))) emitted q
+  IsGrouped held k x emitted q = (v : Put (Vec A Global) E) × Puts from (items_of_key eq held k) x v × IsTransition (group_by eq held (Ok (k, v))) emitted q
 
   pub grouped_same : (g : Group K A) (k : K) (x : A) (w : Vec A Global) → eq g.0 k ≡ true → Grown (Some g.1) x w → IsGrouped (Some g) k x None (Some (g.0, w))
   grouped_same g k x w is grown = (Ok w, subst (λ b. Puts from (cond b (Some g.1) None) x (Ok w)) (sym is) grown, subst (λ b. IsTransition {E = E} (group_at g k w b) None (Some (g.0, w))) (sym is) (refl, refl))
@@ -51,11 +51,11 @@ module _ {A K E : Type 0} (from : AllocError → E → Type 0) (eq : K → K →
   group_kept_of_none (Some g) = refl
 
   -- the item was to begin a group
-  pub grouped_refused : (held : Option (Group K A)) (k : K) (x : A) (refused : AllocError) (e : E) (taken : Option (Group K A)) (emitted : Emitted (Group K A) (Option E) E) (q : Option (Group K A)) → joined eq held k ≡ None → from refused e → taken ≡ held → emitted ≡ before_stop taken (Some e) → q ≡ None → IsGrouped held k x emitted q
+  pub grouped_refused : (held : Option (Group K A)) (k : K) (x : A) (refused : AllocError) (e : E) (taken : Option (Group K A)) (emitted : Emitted (Group K A) (Option E) E) (q : Option (Group K A)) → items_of_key eq held k ≡ None → from refused e → taken ≡ held → emitted ≡ before_stop taken (Some e) → q ≡ None → IsGrouped held k x emitted q
   grouped_refused held k x refused e taken emitted q begins because at before none = (Err (None, e), subst (λ into. Puts {A = A} from into x (Err (None, e))) (sym begins) ((refused, because), tt, tt), (before ∙ ap (λ v. before_stop v (Some e)) (at ∙ sym (group_kept_of_none held)), none))
 
-  pub none_joined_where_differ : (g : Group K A) (k : K) → eq g.0 k ≡ false → joined eq (Some g) k ≡ None
-  none_joined_where_differ g k is = ap (λ b. cond b (Some g.1) None) is
+  pub no_items_of_key_where_differ : (g : Group K A) (k : K) → eq g.0 k ≡ false → items_of_key eq (Some g) k ≡ None
+  no_items_of_key_where_differ g k is = ap (λ b. cond b (Some g.1) None) is
 
 -- ---- what it lists
 
@@ -76,10 +76,10 @@ module _ {F A K E : Type 0} (from : AllocError → E → Type 0) (eq : K → K �
   group_at_alike p xs k x w true is grown = ((refl, subst (λ (zs : List A). vec_items w ≡ zs ++ x ∷ []) is grown), tt)
   group_at_alike p xs k x w false is grown = ((refl, grown), ((refl, is), refl))
 
-  grown_alike : (p : Group K A) (i : K × List A) (k : K) (x : A) (w : Vec A Global) → MadeGroup i p → Grown (joined eq (Some p) k) x w → Alike (group_by eq (Some p) (Ok (k, Ok w))) (group_by eq (Some i) (put_by_key eq h (Some i) x (Ok k)))
+  grown_alike : (p : Group K A) (i : K × List A) (k : K) (x : A) (w : Vec A Global) → MadeGroup i p → Grown (items_of_key eq (Some p) k) x w → Alike (group_by eq (Some p) (Ok (k, Ok w))) (group_by eq (Some i) (put_by_key eq h (Some i) x (Ok k)))
   grown_alike p i k x w is grown = subst (λ (j : K). Alike (group_by eq (Some p) (Ok (k, Ok w))) (group_by eq (Some (j, i.1)) (put_by_key eq h (Some (j, i.1)) x (Ok k)))) is.0 (subst (λ t. Alike (group_by eq (Some p) (Ok (k, Ok w))) t) (sym (group_by_is_made eq h (p.0, i.1) x k (eq p.0 k) refl)) (group_at_alike p i.1 k x w (eq p.0 k) is.1 grown))
 
-  put_alike : (held : Option (Group K A)) (a : Option (K × List A)) (x : A) (k : K) (put : Put (Vec A Global) E) → HeldAlike held a → Puts from (joined eq held k) x put → Refused (group_by eq held (Ok (k, put))).0 ⊎ Alike (group_by eq held (Ok (k, put))) (group_by eq a (put_by_key eq h a x (Ok k)))
+  put_alike : (held : Option (Group K A)) (a : Option (K × List A)) (x : A) (k : K) (put : Put (Vec A Global) E) → HeldAlike held a → Puts from (items_of_key eq held k) x put → Refused (group_by eq held (Ok (k, put))).0 ⊎ Alike (group_by eq held (Ok (k, put))) (group_by eq a (put_by_key eq h a x (Ok k)))
   put_alike held a x k (Err (kept, e)) at w = inl (group_kept held kept, e, refl, w.0)
   put_alike None None x k (Ok v) at grown = inr ((refl, grown), tt)
   put_alike None (Some i) x k (Ok v) at grown = absurd at

@@ -7,7 +7,7 @@ use Rattle.fallible_iterator.specs.Contract.{Contract, parts_as}
 use Rattle.fallible_iterator.specs.Lists.{Lists}
 use Rattle.fallible_iterator.specs.Making.{ListsMade}
 use Rattle.fallible_iterator.proofs.Lemmas.Making.{lists_made_seen}
-use Rattle.fallible_itertools_adapters.specs.Batch.{Grown, GrownTo, NoRoom, Put, SameHeld, held_items, kept_of, put_last}
+use Rattle.fallible_itertools_adapters.specs.Batch.{Grown, GrownTo, NoRoom, Put, SameHeld, held_items, held_without_item, put_last}
 use Rattle.fallible_itertools_adapters.specs.BeforeStop.{before_stop}
 use Rattle.fallible_itertools_adapters.specs.Chunks.{batch_at, batch_by, chunked, chunks_contract, chunks_parts, chunks_plan, chunks_stops, puts, vec_count}
 use Rattle.fallible_itertools_adapters.specs.Plan.{IsTransition, Transition, plan_item, plan_meets}
@@ -34,7 +34,7 @@ module _ {A E : Type 0} (from : AllocError → E → Type 0) where
   put_of_whole n held None after u x count whole emitted grown full same is none = absurd grown
   put_of_whole n held (Some w) after u x count whole emitted (grown, counts) full same is none = let at : w ≡ whole = cc in (Ok w, grown, subst (λ b. IsTransition {E = E} (batch_at n w b) emitted (n, after)) (sym (le-ltb (vec_count w) n (subst (λ k. n ≤ k) counts full))) (rw (is, at) refl, rw none refl))
 
-  kept_where_same : (held kept : Option (Vec A Global)) → SameHeld held kept → kept_of held kept ≡ kept
+  kept_where_same : (held kept : Option (Vec A Global)) → SameHeld held kept → held_without_item held kept ≡ kept
   kept_where_same None None w = refl
   kept_where_same None (Some v) w = absurd w
   kept_where_same (Some v) kept w = refl
@@ -62,7 +62,7 @@ module _ {A E : Type 0} (from : AllocError → E → Type 0) where
 
   put_fills : (p : ℕ × Option (Vec A Global)) (x : A) (put : Put (Vec A Global) E) → puts from tt (p.1, x) put tt → FillsWhereNone p (batch_by vec_count p put).0 (batch_by vec_count p put).1
   put_fills p x (Ok w) grown = batch_at_fills p x w (ltb (vec_count w) p.0) refl grown
-  put_fills p x (Err (kept, e)) w = λ none. absurd (before_stop_makes_some (kept_of p.1 kept) (Some e) none)
+  put_fills p x (Err (kept, e)) w = λ none. absurd (before_stop_makes_some (held_without_item p.1 kept) (Some e) none)
 
   pub room_shrinks_where_none_emitted : (p q : (ℕ × Option (Vec A Global)) × Unit {0}) (a : Answered A E) → plan_meets (puts from) (chunks_plan vec_count) chunks_stops p a None q → room_of q < room_of p
   room_shrinks_where_none_emitted p q (Ok (Some x)) w = let k = put_fills p.0 x w.0 w.1 (sym w.2.0) in rw w.2.1 k
@@ -104,7 +104,7 @@ module _ {A E : Type 0} (from : AllocError → E → Type 0) where
 
   put_alike : (h : ℕ × Option (Vec A Global)) (k : ℕ × Option (List A)) (x : A) (put : Put (Vec A Global) E) → HeldAlike h k → puts from tt (h.1, x) put tt → Refused (batch_by vec_count h put).0 ⊎ Alike (batch_by vec_count h put) (batch_by length k (put_last k.1 x))
   put_alike h k x (Ok w) at grown = inr (grown_alike h k x w at grown)
-  put_alike h k x (Err (kept, e)) at w = inl (kept_of h.1 kept, e, refl, w.0)
+  put_alike h k x (Err (kept, e)) at w = inl (held_without_item h.1 kept, e, refl, w.0)
 
   chunks_plans_alike : (h : ℕ × Option (Vec A Global)) (k : ℕ × Option (List A)) (x : A) → HeldAlike h k → PlansAlike (puts from) (chunks_plan vec_count) chunks_stops put_of (chunks_plan length) chunks_stops batch_made from tt HeldAlike (chunks_plan vec_count h x) (chunks_plan length k x)
   chunks_plans_alike h k x at = λ put g called. elim (put_alike h k x put at called) [ inl w ↦ inl w | inr w ↦ inr (refl, w) ]

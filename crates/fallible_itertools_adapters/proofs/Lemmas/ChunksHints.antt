@@ -6,7 +6,7 @@ use Rattle.std.proofs.Math.Nat.{div-lt_iff_lt-mul, suc-mul}
 use Rattle.fallible_iterator.specs.Contract.{Contract, parts_as}
 use Rattle.fallible_iterator.specs.Hints.{fitting_sum}
 use Rattle.fallible_iterator.proofs.Lemmas.Hints.Joining.{if_some_fitting_sum_at_least_both}
-use Rattle.fallible_itertools_adapters.specs.Batch.{Grown, Put, Puts, kept_of}
+use Rattle.fallible_itertools_adapters.specs.Batch.{Grown, Put, Puts, held_without_item}
 use Rattle.fallible_itertools_adapters.specs.BeforeStop.{HintsWhereHeld, before_stop, held_one}
 use Rattle.fallible_itertools_adapters.specs.Chunks.{batch_at, batch_by, batch_held, begun, chunks_contract, chunks_due, chunks_parts, chunks_plan, chunks_source, chunks_stops, puts, room_left, vec_count}
 use Rattle.fallible_itertools_adapters.specs.Laws.Chunks.{is_stage_chunks}
@@ -55,7 +55,7 @@ module _ {A E : Type 0} (from : AllocError → E → Type 0) where
 
   few_of_put : (h : ℕ × Option (Vec A Global)) (x : A) (put : Put (Vec A Global) E) (low : ℕ) → Puts from h.1 x put → EmittedFew stop_comes (batch_by vec_count h put).0 (λ n. EnoughBegun h.0 (batch_by vec_count h put).1.1 (low - 1) n) (λ n. EnoughBegun h.0 h.1 low n)
   few_of_put h x (Ok w) low grown = few_of_batch_at h x w (ltb (vec_count w) h.0) low refl grown
-  few_of_put h x (Err (kept, e)) low w = few_before_failure (kept_of h.1 kept) e _ _
+  few_of_put h x (Err (kept, e)) low w = few_before_failure (held_without_item h.1 kept) e _ _
 
   size_of_put : (h : ℕ × Option (Vec A Global)) (put : Put (Vec A Global) E) → (batch_by vec_count h put).1.0 ≡ h.0
   size_of_put h (Err r) = refl

@@ -2,7 +2,7 @@
 use Rattle.std.specs.Prelude.{ℕ, ltb, Bool, true, false, Option, Some, None, Ok, Err}
 use Rattle.std.proofs.Common.{refl, arith}
 use Rattle.fallible_iterator.specs.Contract.{Contract, Lawful}
-use Rattle.fallible_itertools_adapters.specs.Batch.{Put, kept_of}
+use Rattle.fallible_itertools_adapters.specs.Batch.{Put, held_without_item}
 use Rattle.fallible_itertools_adapters.specs.BeforeStop.{before_stop}
 use Rattle.fallible_itertools_adapters.specs.Chunks.{batch_at, batch_by, batch_held, chunks_contract, chunks_hint_plan, chunks_plan, chunks_stops, puts, vec_count}
 use Rattle.fallible_itertools_adapters.specs.Laws.Plan.{ItemWeighs, before_stop_weighs, is_stage_plan, lawful_plan}
@@ -15,7 +15,7 @@ module _ {V : Type 0} (E : Type 0) (count : V → ℕ) where
   batch_at_weighs h v true = (omega arith, omega arith)
   batch_at_weighs h v false = (omega arith, omega arith)
 
-  refused_weighs : (n : ℕ) (held kept : Option V) (e : E) → ItemWeighs stop_comes 1 batch_held (n, held) (before_stop (kept_of held kept) (Some e), (n, None))
+  refused_weighs : (n : ℕ) (held kept : Option V) (e : E) → ItemWeighs stop_comes 1 batch_held (n, held) (before_stop (held_without_item held kept) (Some e), (n, None))
   refused_weighs n None kept e = (omega arith, omega arith)
   refused_weighs n (Some v) None e = (omega arith, omega arith)
   refused_weighs n (Some v) (Some w) e = (omega arith, omega arith)

@@ -12,7 +12,7 @@ use Rattle.fallible_iterator.specs.Laws.Closures.{reaches_reflexive, reaches_by_
 use Rattle.fallible_iterator.specs.Laws.Contract.{lawful_parts}
 use Rattle.fallible_iterator.specs.Laws.Cutting.Fuse.{lawful_fuse}
 use Rattle.fallible_itertools_joins.specs.Laws.SidesTraces.{sides_traced}
-use Rattle.fallible_itertools_joins.specs.Sides.{AsksOfTwo, Join, OfEach, by_ordering, join_answer, join_by, join_rule, left_first, right_first, taken, two_items, fused_contract, GivesHeldFirst, GivesIf, side_remaining, side_gives, Rule, SidesPlace, left_failed, right_failed, both_gave, left_gave, right_gave, left_held_after, right_held_after, place_answer, place_decides, Places, places_contract, rule_places, sides_contract}
+use Rattle.fallible_itertools_joins.specs.Sides.{AsksOfTwo, Join, OfEachSide, by_ordering, join_answer, join_by, join_rule, left_first, right_first, taken_of_two, two_items, fused_contract, GivesHeldFirst, GivesIf, side_remaining, side_gives, Rule, SidesPlace, left_failed, right_failed, both_gave, left_gave, right_gave, left_held_after, right_held_after, place_answer, place_decides, Places, places_contract, rule_places, sides_contract}
 use Rattle.fallible_iterator.specs.Laws.Joining.Chain.{both_true_where_cond_true, cond_true_where_both_true}
 use Rattle.fallible_itertools_joins.specs.declared.zip_longest.EitherOrBoth.{EitherOrBoth}
 use Rattle.fallible_itertools_joins.specs.declared.zip_longest.EitherOrBoth.TheVariants.{Both, Left, Right}
@@ -208,7 +208,7 @@ module _ {S U A B C E F V : Type 0} (left : Contract S A E) (right : Contract U 
 
 -- ---- a join
 
-pub of_each_where_each_implies : {A B : Type 0} (P P' : A → Type 0) (Q Q' : B → Type 0) (z : EitherOrBoth A B) → ((x : A) → P' x → P x) → ((y : B) → Q' y → Q y) → OfEach P' Q' z → OfEach P Q z
+pub of_each_where_each_implies : {A B : Type 0} (P P' : A → Type 0) (Q Q' : B → Type 0) (z : EitherOrBoth A B) → ((x : A) → P' x → P x) → ((y : B) → Q' y → Q y) → OfEachSide P' Q' z → OfEachSide P Q z
 of_each_where_each_implies P P' Q Q' (Both x y) p q h = (p x h.0, q y h.1)
 of_each_where_each_implies P P' Q Q' (Left x) p q h = p x h
 of_each_where_each_implies P P' Q Q' (Right y) p q h = q y h
@@ -219,10 +219,10 @@ held_is_none_or_item true x = inr refl
 held_is_none_or_item false x = inl refl
 
 module _ {A B : Type 0} (P : A → Type 0) (Q : B → Type 0) (x : A) (y : B) where
-  of_each_of_taken : (o : Ordering) → P x → Q y → OfEach P Q (taken x y o)
-  of_each_of_taken Less p q = p
-  of_each_of_taken Equal p q = (p, q)
-  of_each_of_taken Greater p q = q
+  of_each_of_taken_of_two : (o : Ordering) → P x → Q y → OfEachSide P Q (taken_of_two x y o)
+  of_each_of_taken_of_two Less p q = p
+  of_each_of_taken_of_two Equal p q = (p, q)
+  of_each_of_taken_of_two Greater p q = q
 
   one_taken_at_least : (o : Ordering) → 1 ≤ (1 - held_count (cond (by_ordering false false true o) (Some x) None)) + (1 - held_count (cond (by_ordering true false false o) (Some y) None))
   one_taken_at_least Less = omega arith
@@ -239,7 +239,7 @@ module _ {A B C E F K : Type 0} (j : Join A B C E F K) where
     pub askable_less : (P P' : A → Type 0) (Q Q' : B → Type 0) (f : F) → ((z : A) → P' z → P z) → ((z : B) → Q' z → Q z) → j.askable P Q f → j.askable P' Q' f
     pub refuses_more : (P P' : A → Type 0) (Q Q' : B → Type 0) (f : F) (e : E) → ((z : A) → P' z → P z) → ((z : B) → Q' z → Q z) → j.refuses P' Q' f e → j.refuses P Q f e
     pub gives_more : GivesMore j.gives
-    pub gives_made : (P : A → Type 0) (Q : B → Type 0) (t : EitherOrBoth A B) → OfEach P Q t → j.gives P Q (j.makes t)
+    pub gives_made : (P : A → Type 0) (Q : B → Type 0) (t : EitherOrBoth A B) → OfEachSide P Q t → j.gives P Q (j.makes t)
     pub after_said : (P : A → Type 0) (Q : B → Type 0) (f g : F) (x : A) (y : B) (v : Result K E) → P x → Q y → j.says f x y v g → AsAskable P Q f g
     pub refuses_said : (P : A → Type 0) (Q : B → Type 0) (f g : F) (x : A) (y : B) (e : E) → P x → Q y → j.says f x y (Err e) g → j.refuses P Q f e
 
@@ -256,7 +256,7 @@ module _ {A B C E F K : Type 0} (j : Join A B C E F K) where
     after_asked f g None y None p q d = as_askable_where_same f g d
 
     made_by_join : (f : F) (x : Option A) (y : Option B) (v : Option (Result K E)) (g : F) → OfItem P x → OfItem Q y → AsksOfTwo j.says f (two_items x y) v g → MadeBy (join_rule j) P Q f ((held_count x - held_count (cond (right_first j.order v) x None)) + (held_count y - held_count (cond (left_first j.order v) y None))) (join_answer j.order j.makes x y v)
-    made_by_join f (Some x) (Some y) (Some (Ok k)) g p q d = (w.gives_made P Q (taken x y (j.order k)) (of_each_of_taken P Q x y (j.order k) p q), one_taken_at_least P Q x y (j.order k))
+    made_by_join f (Some x) (Some y) (Some (Ok k)) g p q d = (w.gives_made P Q (taken_of_two x y (j.order k)) (of_each_of_taken_of_two P Q x y (j.order k) p q), one_taken_at_least P Q x y (j.order k))
     made_by_join f (Some x) (Some y) (Some (Err e)) g p q d = (w.refuses_said P Q f g x y e p q d, omega arith)
     made_by_join f (Some x) (Some y) None g p q d = absurd d
     made_by_join f (Some x) None (Some v) g p q d = absurd d
@@ -278,7 +278,7 @@ module _ {A B C E F K : Type 0} (j : Join A B C E F K) where
   }
 
 -- by a closure
-pub is_lawful_join_by : {A B C E F K : Type 0} (call : F → A → B → Result K E → F → Type 0) (takes : F → A → B → Type 0) (order : K → Ordering) (makes : EitherOrBoth A B → C) (gives : (A → Type 0) → (B → Type 0) → C → Type 0) → GivesMore gives → ((P : A → Type 0) (Q : B → Type 0) (t : EitherOrBoth A B) → OfEach P Q t → gives P Q (makes t)) → IsLawfulJoin (join_by call takes order makes gives)
+pub is_lawful_join_by : {A B C E F K : Type 0} (call : F → A → B → Result K E → F → Type 0) (takes : F → A → B → Type 0) (order : K → Ordering) (makes : EitherOrBoth A B → C) (gives : (A → Type 0) → (B → Type 0) → C → Type 0) → GivesMore gives → ((P : A → Type 0) (Q : B → Type 0) (t : EitherOrBoth A B) → OfEachSide P Q t → gives P Q (makes t)) → IsLawfulJoin (join_by call takes order makes gives)
 is_lawful_join_by call takes order makes gives more made = record {
   askable_less = λ P P' Q Q' f p q h. is_callable_after (λ z w. (p z.0 w.0, q z.1 w.1)) reaches_reflexive h;
   refuses_more = λ P P' Q Q' f e p q h. may_answer_where_reached_may_answer (λ z w. (p z.0 w.0, q z.1 w.1)) reaches_reflexive h;
