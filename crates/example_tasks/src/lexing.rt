@@ -1,13 +1,13 @@
 //! A lexer over any iterator of bytes: numbers, words and signs, read by looking one byte ahead.
-ghost use Rattle.std.specs.Prelude.{◌≡◌, ◌-◌, ◌^◌, ℕ, List, None, Ok, Result};
+ghost use Rattle.std.specs.Prelude.{◌≡◌, ◌-◌, ◌^◌, ℕ, List, Result};
 ghost use Rattle.fallible_iterator.specs.Contract.{AtMost, Stays};
 ghost use Rattle.fallible_iterator.specs.Laws.Contract.{lawful_parts};
 ghost use Rattle.fallible_iterator.specs.Laws.Peeking.Peekable.{lawful_peekable};
 ghost use Rattle.fallible_iterator.specs.Lists.{CollectedAs, Lists, numbered, result_answer};
 ghost use Rattle.fallible_iterator.specs.Peeking.Peekable.{peekable_made, peekable_parts};
-ghost use Rattle.fallible_itertools.specs.Ahead.{Lowers, making};
+ghost use Rattle.fallible_itertools.specs.Ahead.{making};
 ghost use Rattle.fallible_itertools.specs.Laws.Ahead.{lawful_making};
-ghost use Rattle.example_tasks.specs.Lexing.{Placed, belongs, first_byte, kind_of, lexed, rest_byte, rest_lexed, rest_value, sign_at, token_at, value_taken, with_byte};
+ghost use Rattle.example_tasks.specs.Lexing.{Placed, belongs, kind_of, lexed, rest_lexed, rest_value, sign_at, token_at, value_taken, with_byte};
 ghost use Rattle.example_tasks.specs.declared.lexing.Kind.{Kind};
 
 use crate::tokens::{Token, sign_of};
@@ -92,27 +92,6 @@ fn sign_at<E>(place: usize, byte: u8) -> Result<Option<(usize, Token)>, LexFault
     }
 }
 
-// Draws up to the first byte that is no blank.
-fn first_byte<I: FallibleIterator<Item = (usize, u8)>>(
-    ahead: &mut Peekable<I>,
-) -> Result<Option<(usize, u8)>, I::Error>
-where
-    requires can_next { ⟦<Peekable<I> as FallibleIterator>⟧.contract.can_next ahead.old }
-    requires finite { ⟦<Peekable<I> as FallibleIterator>⟧.contract.is_finite ahead.old }
-    ensures value { (l : List (Result Placed I.Error))
-        → Lists ⟦<Peekable<I> as FallibleIterator>⟧.contract.steps ahead.old l
-        → result ≡ first_byte l }
-    ensures rest { (l : List (Result Placed I.Error))
-        → Lists ⟦<Peekable<I> as FallibleIterator>⟧.contract.steps ahead.old l
-        → ¬ (result ≡ Ok None)
-        → Lists ⟦<Peekable<I> as FallibleIterator>⟧.contract.steps ahead.new (rest_byte l) }
-    ensures stays { Stays ⟦<Peekable<I> as FallibleIterator>⟧.contract ahead.old ahead.new }
-    ensures lowers { Lowers ⟦<Peekable<I> as FallibleIterator>⟧.contract
-        ahead.old result ahead.new }
-{
-    ahead.find(|next| Ok(!next.1.is_ascii_whitespace()))
-}
-
 // The value of a token that was begun, with the bytes that go on with it.
 fn value_ahead<I: FallibleIterator<Item = (usize, u8)>>(
     ahead: &mut Peekable<I>,
@@ -160,7 +139,7 @@ impl<I: FallibleIterator<Item = (usize, u8)>> FallibleIterator for Lexer<I> {
 
     /// Returns the next token and its place.
     fn next(&mut self) -> Result<Option<(usize, Token)>, LexFault<I::Error>> {
-        let (place, byte) = match first_byte(&mut self.ahead) {
+        let (place, byte) = match self.ahead.find(|next| Ok(!next.1.is_ascii_whitespace())) {
             Ok(Some(first)) => first,
             Ok(None) => return Ok(None),
             Err(e) => return Err(LexFault::Source(e)),

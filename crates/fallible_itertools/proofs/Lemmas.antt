@@ -21,6 +21,7 @@ pub mod Joined
 pub mod KSmallest
 pub mod KSmallestFolds
 pub mod Keyed
+pub mod Lexing
 pub mod MinMax
 pub mod MinMaxBy
 pub mod Parted

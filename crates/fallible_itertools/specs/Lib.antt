@@ -20,6 +20,7 @@ pub mod Join
 pub mod KSmallest
 pub mod Keyed
 pub mod Laws
+pub mod Lexing
 pub mod MinMax
 pub mod MinMaxBy
 pub mod Parted

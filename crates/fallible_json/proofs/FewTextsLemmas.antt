@@ -3,16 +3,17 @@ use Rattle.std.proofs.Common.{Bool, true, false, ◌≡◌, ℕ, suc, ◌+◌, �
 use Rattle.std.specs.Prelude.{filter}
 use Rattle.std.specs.declared.convert.Infallible.{Infallible}
 use Rattle.fallible_iterator.specs.Lists.{items, numbered}
+use Rattle.fallible_itertools.specs.Lexing.{lexed_by, lexed_from, where_goes}
 use Rattle.fallible_json.specs.Bytes.{is_open}
 use Rattle.fallible_json.specs.Grammar.{State, after_token, begin, is_whole}
-use Rattle.fallible_json.specs.Lexing.{Begun, Lexeme, Placed, begun_at, closed, lexed, lexed_after, lexed_from, where_goes}
+use Rattle.fallible_json.specs.Lexing.{Begun, Lexeme, Placed, begun_at, begun_with, closed, lexed, token_rules}
 use Rattle.fallible_json.specs.Minifying.{bytes_of}
 use Rattle.fallible_json.specs.Taking.{◌before◌}
 use Rattle.fallible_json.specs.Texts.{Ending, complete, cut, Text, Tokens, at_ending, ends_text, faulty, is_begin, texts_after, texts_from, tokens_by, where_ends, where_stands}
-use Rattle.fallible_json.specs.Tokens.{after, begun_by, is_blank}
+use Rattle.fallible_json.specs.Tokens.{is_blank}
 use Rattle.fallible_json.specs.Wanted.{wanted_of}
 use Rattle.fallible_json.specs.declared.lexer.LexFault.{LexFault}
-use Rattle.fallible_json.specs.declared.token.Phase.{Phase}
+use Rattle.fallible_json.specs.declared.lexer.LexFault.TheVariants.{Unknown}
 
 few_either : {A : Type 0} (c : Bool) (a b : List A) (n : ℕ) → length a ≤ n → length b ≤ n → length (if c then a else b) ≤ n
 few_either true a b n p q = p
@@ -21,28 +22,27 @@ few_either false a b n p q = q
 abbrev Lexed : Type 0
 Lexed = List (Result Lexeme (LexFault Infallible))
 
-few_begun : (o : Option Phase) (place n : ℕ) (tail : Begun → Lexed) → length (tail None) ≤ n → ((first last : ℕ) (phase : Phase) → length (tail (Some (first, last, phase))) ≤ n + 1) → length (begun_at o place tail) ≤ n + 1
-few_begun (Some phase) place n tail p q = q place place phase
-few_begun None place n tail p q = omega (arith, p)
-
-few_from : (place byte n : ℕ) (tail : Begun → Lexed) → length (tail None) ≤ n → ((first last : ℕ) (phase : Phase) → length (tail (Some (first, last, phase))) ≤ n + 1) → length (lexed_from place byte tail) ≤ n + 1
-few_from place byte n tail p q = few_either (is_blank byte) (tail None) (begun_at (begun_by byte) place tail) (n + 1) (omega (arith, p)) (few_begun (begun_by byte) place n tail p q)
-
-few_goes : (o : Option Phase) (stops : Lexed) (goes : Phase → Lexed) (n : ℕ) → length stops ≤ n → ((phase : Phase) → length (goes phase) ≤ n) → length (where_goes o stops goes) ≤ n
+few_goes : (o : Option Begun) (stops : Lexed) (goes : Begun → Lexed) (n : ℕ) → length stops ≤ n → ((s : Begun) → length (goes s) ≤ n) → length (where_goes o stops goes) ≤ n
 few_goes None stops goes n p q = p
-few_goes (Some phase) stops goes n p q = q phase
+few_goes (Some s) stops goes n p q = q s
+
+few_from : (x : Placed) (n : ℕ) (tail : Option Begun → Lexed) → length (tail None) ≤ n → ((s : Begun) → length (tail (Some s)) ≤ n + 1) → length (lexed_from token_rules x tail) ≤ n + 1
+few_from x n tail p q =
+    let none = Err (Unknown x.0) ∷ tail None in
+    let goes = λ (s : Begun). tail (Some s) in
+    few_either (is_blank x.1) (tail None) (where_goes (begun_at x) none goes) (n + 1) (omega (arith, p)) (few_goes (begun_at x) none goes (n + 1) (omega (arith, p)) q)
 
 -- placed bytes have at most as many tokens, and one more where one is begun
-few_lexed : (l : List (Result Placed Infallible)) → (length (lexed_after None l) ≤ length l) × ((first last : ℕ) (phase : Phase) → length (lexed_after (Some (first, last, phase)) l) ≤ length l + 1)
-unfolding lexed_after
-few_lexed [] = (omega arith, λ first last phase. omega arith)
-few_lexed (Err e ∷ l) = let h = few_lexed l in let k = h.0 in (omega (arith, k), λ first last phase. omega (arith, k))
+few_lexed : (l : List (Result Placed Infallible)) → (length (lexed_by token_rules None l) ≤ length l) × ((s : Begun) → length (lexed_by token_rules (Some s) l) ≤ length l + 1)
+unfolding lexed_by
+few_lexed [] = (omega arith, λ s. omega arith)
+few_lexed (Err e ∷ l) = let h = few_lexed l in let k = h.0 in (omega (arith, k), λ s. omega (arith, k))
 few_lexed (Ok x ∷ l) =
     let h = few_lexed l in
-    let tail = λ (b : Begun). lexed_after {E = Infallible} b l in
-    let here = few_from x.0 x.1 (length l) tail h.0 h.1 in (
+    let tail = λ (b : Option Begun). lexed_by (token_rules {E = Infallible}) b l in
+    let here = few_from x (length l) tail h.0 h.1 in (
       omega (arith, here),
-      λ first last phase. few_goes (after phase x.1) (closed {E = Infallible} first last phase ∷ lexed_from x.0 x.1 tail) (λ next. tail (Some (first, x.0, next))) (suc (length l) + 1) (omega (arith, here)) (λ next. let k = h.1 first x.0 next in omega (arith, k)),
+      λ s. few_goes (begun_with s x) (closed {E = Infallible} s.0 s.1 s.2 ∷ lexed_from token_rules x tail) (λ t. tail (Some t)) (suc (length l) + 1) (omega (arith, here)) (λ t. let k = h.1 t in omega (arith, k)),
     )
 
 length_placed : (place : ℕ) (text : List ℕ) → length (numbered {E = Infallible} place (items text)) ≡ length text

@@ -3,7 +3,8 @@ use Rattle.std.specs.Prelude.{◌≡◌, ℕ, zero, suc, ◌+◌, ◌==◌, ◌|
 use Rattle.std.proofs.Common.{arith, refl, ap, sym, subst, inl, inr, ◌∙◌, append-nil}
 use Rattle.std.proofs.lemmas.Bool.Decides.{Decides-eqb}
 use Rattle.fallible_iterator.specs.Lists.{items, numbered}
-use Rattle.fallible_json.specs.Lexing.{Begun, Lexeme, begun_at, closed, lexed_after, lexeme_or}
+use Rattle.fallible_itertools.specs.Lexing.{lexed_by}
+use Rattle.fallible_json.specs.Lexing.{Begun, Lexeme, closed, lexeme_or, token_rules}
 use Rattle.fallible_json.specs.Spelled.{IsLongest, SpellEach}
 use Rattle.fallible_json.specs.Spelling.{IsBlank, IsSpelled, Many, Times}
 use Rattle.fallible_json.specs.Tokens.{after, begun_by, is_blank, token_of}
@@ -14,6 +15,7 @@ use Rattle.fallible_json.specs.declared.token.Phase.TheVariants.{Whole, Inside, 
 use Rattle.fallible_json.specs.declared.token.Token.{Token}
 use Rattle.fallible_json.specs.declared.wanted.Wanted.{Wanted}
 use Rattle.fallible_json.specs.declared.token.Token.TheVariants.{Text, Number, Literal}
+use Rattle.fallible_json.proofs.LexingLemmas.{lexed_begun}
 use Rattle.fallible_json.proofs.Reading.{read, token_begun, token_read}
 use Rattle.fallible_json.proofs.ReadLemmas.{first_of, one_more, spelled_of_read}
 use Rattle.fallible_json.proofs.SpelledLemmas.{read_appended, read_of_spelled}
@@ -61,11 +63,11 @@ blanks_of (byte ∷ bytes) = with_blank (is_blank byte) byte bytes refl (blanks_
 
 module _ {E : Type 0} where
   -- the tokens of bytes from a place on
-  abbrev Read : Begun → ℕ → List ℕ → List (Result Lexeme (LexFault E))
-  Read begun place bytes = lexed_after {E = E} begun (numbered place (items bytes))
+  abbrev Read : Option Begun → ℕ → List ℕ → List (Result Lexeme (LexFault E))
+  Read begun place bytes = lexed_by (token_rules {E = E}) begun (numbered place (items bytes))
 
   blank_skipped : (byte place : ℕ) (bytes : List ℕ) → is_blank byte ≡ true → Read None place (byte ∷ bytes) ≡ Read None (place + 1) bytes
-  unfolding items numbered lexed_after
+  unfolding items numbered lexed_by
   blank_skipped byte place bytes is = rw is refl
 
   one_blank_skipped : (byte place n : ℕ) (blanks front others rest : List ℕ) → is_blank byte ≡ true → front ≡ byte ∷ [] → blanks ≡ front ++ others → Read None (place + 1) (others ++ rest) ≡ Read None (place + 1 + length others) rest → Read None place (blanks ++ rest) ≡ Read None (place + length blanks) rest
@@ -83,8 +85,8 @@ module _ {E : Type 0} where
 
   -- ---- the run of a token
 
-  read_first_byte : (blank : Bool) (byte place : ℕ) (bytes : List ℕ) → is_blank byte ≡ false → Read None place (byte ∷ bytes) ≡ begun_at {E = E} (begun_by byte) place (λ begun. Read begun (place + 1) bytes)
-  unfolding items numbered lexed_after
+  read_first_byte : (blank : Bool) (byte place : ℕ) (bytes : List ℕ) → is_blank byte ≡ false → Read None place (byte ∷ bytes) ≡ lexed_begun {E = E} (begun_by byte) place (λ begun. Read begun (place + 1) bytes)
+  unfolding items numbered lexed_by
   read_first_byte blank byte place bytes is = rw is refl
 
 -- no byte goes on with it
@@ -117,12 +119,12 @@ ReadsRun E first last phase next place more rest = (end : ℕ) × (end + 1 ≡ p
 
 module _ {E : Type 0} where
   stops_at : (first last place : ℕ) (phase : Phase) (rest : List ℕ) → Stops phase rest → Read {E = E} (Some (first, last, phase)) place rest ≡ closed first last phase ∷ Read None place rest
-  unfolding items numbered lexed_after
+  unfolding items numbered lexed_by
   stops_at first last place phase [] stops = refl
   stops_at first last place phase (byte ∷ rest) stops = rw stops refl
 
   goes_on_with : (first last place byte : ℕ) (phase next : Phase) (bytes : List ℕ) → after phase byte ≡ Some next → Read {E = E} (Some (first, last, phase)) place (byte ∷ bytes) ≡ Read (Some (first, place, next)) (place + 1) bytes
-  unfolding items numbered lexed_after
+  unfolding items numbered lexed_by
   goes_on_with first last place byte phase next bytes is = rw is refl
 
   run_first : (o : Option Phase) (first last place byte : ℕ) (phase next : Phase) (more rest : List ℕ) → after phase byte ≡ o → option_and_then (λ k. read (Some k) more) o ≡ Some (Some next) → ((k : Phase) → read (Some k) more ≡ Some (Some next) → ReadsRun E first place k next (place + 1) more rest) → ReadsRun E first last phase next place (byte ∷ more) rest
@@ -209,7 +211,7 @@ stops_of_longest spelling (byte ∷ rest) next goes longest = stops_if (after ne
 -- ---- the whole
 
 abbrev Reads : (E : Type 0) → ℕ → List ℕ → List Lexeme → Type 0
-Reads E place bytes lexemes = lexed_after {E = E} None (numbered place (items bytes)) ≡ items lexemes
+Reads E place bytes lexemes = lexed_by (token_rules {E = E}) None (numbered place (items bytes)) ≡ items lexemes
 
 no_blank_begins : (byte : ℕ) (text : List ℕ) → IsBlank text → text ≡ byte ∷ [] → begun_by byte ≡ None
 no_blank_begins byte text (inl is) one = let same : byte ≡ 32 = cc in rw same refl
@@ -251,10 +253,10 @@ module _ {E : Type 0} where
   token_first : (place byte : ℕ) (phase next : Phase) (token : Token) (more rest : List ℕ) → begun_by byte ≡ Some phase → read (Some phase) more ≡ Some (Some next) → Stops next rest → token_of next ≡ Some token → (end : ℕ) × (end + 1 ≡ place + 1 + length more) × (Read {E = E} None place (byte ∷ (more ++ rest)) ≡ Ok (place, end, token) ∷ Read None (place + 1 + length more) rest)
   token_first place byte phase next token more rest begins goes stops ends =
       let run = run_read {E = E} more place place (place + 1) phase next rest refl goes stops in
-      (run.0, run.1, read_first_byte {E = E} false byte place (more ++ rest) (no_blank byte phase begins) ∙ ap (λ o. begun_at {E = E} o place (λ begun. Read begun (place + 1) (more ++ rest))) begins ∙ run.2 ∙ ap (λ o. lexeme_or {E = E} place run.0 (wanted_in next) o ∷ Read None (place + 1 + length more) rest) ends)
+      (run.0, run.1, read_first_byte {E = E} false byte place (more ++ rest) (no_blank byte phase begins) ∙ ap (λ o. lexed_begun {E = E} o place (λ begun. Read begun (place + 1) (more ++ rest))) begins ∙ run.2 ∙ ap (λ o. lexeme_or {E = E} place run.0 (wanted_in next) o ∷ Read None (place + 1 + length more) rest) ends)
 
   none_left : (place : ℕ) → Read {E = E} None place [] ≡ []
-  unfolding items numbered lexed_after
+  unfolding items numbered lexed_by
   none_left place = refl
 
   lexed_of_blanks : (place : ℕ) (bytes : List ℕ) → Many IsBlank bytes → Read {E = E} None place bytes ≡ []
@@ -270,7 +272,7 @@ module _ {E : Type 0} where
       let text : bytes ≡ blanks ++ (reads.byte ∷ (reads.more ++ rest)) = is ∙ ap (λ z. blanks ++ (z ++ rest)) reads.is in
       ap (λ z. Read None place z) text ∙ blanks_skipped each.0 blanks (reads.byte ∷ (reads.more ++ rest)) place each.1 ∙ k.2 ∙ ap (λ z. Ok (z, k.0, token) ∷ Read None (place + length blanks + 1 + length reads.more) rest) (sym at_first) ∙ ap (λ z. Ok (first, z, token) ∷ Read None (place + length blanks + 1 + length reads.more) rest) same_end ∙ ap (λ z. Ok (first, last, token) ∷ Read None z rest) far ∙ ap (λ z. Ok (first, last, token) ∷ z) others
 
-pub lexed_of_spell : {E : Type 0} (lexemes : List Lexeme) (place : ℕ) (bytes : List ℕ) → SpellEach IsLongest place bytes lexemes → lexed_after {E = E} None (numbered place (items bytes)) ≡ items lexemes
+pub lexed_of_spell : {E : Type 0} (lexemes : List Lexeme) (place : ℕ) (bytes : List ℕ) → SpellEach IsLongest place bytes lexemes → lexed_by (token_rules {E = E}) None (numbered place (items bytes)) ≡ items lexemes
 unfolding items SpellEach
 lexed_of_spell [] place bytes each = lexed_of_blanks place bytes each
 lexed_of_spell ((first, last, token) ∷ lexemes) place bytes (blanks, spelling, rest, is, each, at_first, spelled, at_last, longest, others) = spell_first first last place token lexemes bytes blanks spelling rest is each at_first at_last longest (reads_token token spelling spelled) (lexed_of_spell lexemes (last + 1) rest others)
@@ -296,7 +298,7 @@ module _ {E : Type 0} where
   abbrev ReadAfter : ℕ → List ℕ → List ℕ → List (Result Lexeme (LexFault E)) → Type 0
   ReadAfter place blanks rest l = Read {E = E} None (place + length blanks) rest ≡ l
 
-  none_spelled_at : (o : Option Phase) (place byte : ℕ) (more : List ℕ) → begun_at {E = E} o place (λ begun. Read begun (place + 1) more) ≡ [] → ⊥
+  none_spelled_at : (o : Option Phase) (place byte : ℕ) (more : List ℕ) → lexed_begun {E = E} o place (λ begun. Read begun (place + 1) more) ≡ [] → ⊥
   none_spelled_at None place byte more h = cc
   none_spelled_at (Some phase) place byte more h =
       let runs = runs_of more phase in
@@ -319,7 +321,7 @@ module _ {E : Type 0} where
   is_first_of (Some token) wanted first end next x lexemes place rest is h = record { token = token; ends = is; is = cc; others = cc }
   is_first_of None wanted first end next x lexemes place rest is h = absurd cc
 
-  token_at : (o : Option Phase) (place byte : ℕ) (x : Lexeme) (lexemes : List Lexeme) (bytes blanks more : List ℕ) → begun_by byte ≡ o → bytes ≡ blanks ++ (byte ∷ more) → Many IsBlank blanks → begun_at {E = E} o (place + length blanks) (λ begun. Read begun (place + length blanks + 1) more) ≡ items (x ∷ lexemes) → ((next : ℕ) (rest : List ℕ) → Reads E next rest lexemes → SpellEach IsLongest next rest lexemes) → SpellEach IsLongest place bytes (x ∷ lexemes)
+  token_at : (o : Option Phase) (place byte : ℕ) (x : Lexeme) (lexemes : List Lexeme) (bytes blanks more : List ℕ) → begun_by byte ≡ o → bytes ≡ blanks ++ (byte ∷ more) → Many IsBlank blanks → lexed_begun {E = E} o (place + length blanks) (λ begun. Read begun (place + length blanks + 1) more) ≡ items (x ∷ lexemes) → ((next : ℕ) (rest : List ℕ) → Reads E next rest lexemes → SpellEach IsLongest next rest lexemes) → SpellEach IsLongest place bytes (x ∷ lexemes)
   unfolding items
   token_at None place byte x lexemes bytes blanks more begins is each h others = absurd cc
   token_at (Some phase) place byte x lexemes bytes blanks more begins is each h others =
@@ -334,7 +336,7 @@ module _ {E : Type 0} where
   after_blanks place x lexemes bytes blanks [] is each stops h others = let never = sym (none_left {E = E} (place + length blanks)) ∙ h in absurd cc
   after_blanks place x lexemes bytes blanks (byte ∷ more) is each stops h others = token_at (begun_by byte) place byte x lexemes bytes blanks more refl is each (sym (read_first_byte {E = E} false byte (place + length blanks) more stops) ∙ h) others
 
-pub spell_of_lexed : {E : Type 0} (lexemes : List Lexeme) (place : ℕ) (bytes : List ℕ) → lexed_after {E = E} None (numbered place (items bytes)) ≡ items lexemes → SpellEach IsLongest place bytes lexemes
+pub spell_of_lexed : {E : Type 0} (lexemes : List Lexeme) (place : ℕ) (bytes : List ℕ) → lexed_by (token_rules {E = E}) None (numbered place (items bytes)) ≡ items lexemes → SpellEach IsLongest place bytes lexemes
 unfolding items SpellEach
 spell_of_lexed {E = E} [] place bytes h = blanks_of_lexed {E = E} place bytes h
 spell_of_lexed {E = E} (x ∷ lexemes) place bytes h =

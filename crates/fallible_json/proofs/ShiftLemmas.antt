@@ -5,11 +5,12 @@ use Rattle.std.proofs.Common.{arith, refl, sym, ap, subst, ◌∙◌, length-app
 use Rattle.std.proofs.lemmas.Bool.Decides.{nat_tests}
 use lib.Seq.{drop-append-add, take-append-add}
 use Rattle.fallible_iterator.specs.Lists.{items, numbered}
+use Rattle.fallible_itertools.specs.Lexing.{lexed_by, lexed_from}
 use Rattle.fallible_json.specs.Bytes.{is_open, is_word, placed_from}
 use Rattle.fallible_json.specs.Faults.{fault_from}
 use Rattle.fallible_json.specs.Grammar.{State, after_token, begin}
 use Rattle.fallible_json.specs.Json.{fault_place}
-use Rattle.fallible_json.specs.Lexing.{Begun, Lexeme, begun_at, closed, lexed, lexed_after, lexed_from, lexeme_or}
+use Rattle.fallible_json.specs.Lexing.{Begun, Lexeme, closed, lexed, lexeme_or, token_rules}
 use Rattle.fallible_json.specs.Minifying.{bytes_of}
 use Rattle.fallible_json.specs.Places.{place_after_bytes}
 use Rattle.fallible_json.specs.Texts.{Ending, complete, cut, Tokens, ends_text, is_joined, texts_after, texts_from, tokens_by, where_ends}
@@ -21,6 +22,7 @@ use Rattle.fallible_json.specs.declared.minifying.Misplaced.TheVariants as mispl
 use Rattle.fallible_json.specs.declared.token.Phase.{Phase}
 use Rattle.fallible_json.specs.declared.token.Token.{Token}
 use Rattle.fallible_json.specs.declared.wanted.Wanted.{Wanted}
+use Rattle.fallible_json.proofs.LexingLemmas.{lexed_begun}
 use Rattle.fallible_json.proofs.PlaceLemmas.{place_after_append}
 
 -- ---- numbers
@@ -44,7 +46,7 @@ moved n (Err (Source never)) = Err (Source never)
 moved n (Err (Unknown place)) = Err (Unknown (n + place))
 moved n (Err (Unfinished last wanted)) = Err (Unfinished (n + last) wanted)
 
-abbrev begun_moved : ℕ → Begun → Begun
+abbrev begun_moved : ℕ → Option Begun → Option Begun
 begun_moved n (Some (first, last, phase)) = Some (n + first, n + last, phase)
 begun_moved n None = None
 
@@ -57,34 +59,34 @@ module _ (n : ℕ) where
   closed_moved first last phase = closed_moved_by first last (wanted_in phase) (token_of phase)
 
   -- by what a byte begins
-  begun_at_moved : (begun : Option Phase) (place : ℕ) (tail tail' : Begun → Tokens) → ((b : Begun) → tail (begun_moved n b) ≡ map (moved n) (tail' b)) → begun_at begun (n + place) tail ≡ map (moved n) (begun_at begun place tail')
-  begun_at_moved (Some phase) place tail tail' same = same (Some (place, place, phase))
-  begun_at_moved None place tail tail' same = ap (λ l. Err (Unknown (n + place)) ∷ l) (same None)
+  lexed_begun_moved : (begun : Option Phase) (place : ℕ) (tail tail' : Option Begun → Tokens) → ((b : Option Begun) → tail (begun_moved n b) ≡ map (moved n) (tail' b)) → lexed_begun begun (n + place) tail ≡ map (moved n) (lexed_begun begun place tail')
+  lexed_begun_moved (Some phase) place tail tail' same = same (Some (place, place, phase))
+  lexed_begun_moved None place tail tail' same = ap (λ l. Err (Unknown (n + place)) ∷ l) (same None)
 
-  lexed_from_moved_by : (blank : Bool) (place byte : ℕ) (tail tail' : Begun → Tokens) → is_blank byte ≡ blank → ((b : Begun) → tail (begun_moved n b) ≡ map (moved n) (tail' b)) → lexed_from (n + place) byte tail ≡ map (moved n) (lexed_from place byte tail')
+  lexed_from_moved_by : (blank : Bool) (place byte : ℕ) (tail tail' : Option Begun → Tokens) → is_blank byte ≡ blank → ((b : Option Begun) → tail (begun_moved n b) ≡ map (moved n) (tail' b)) → lexed_from token_rules (n + place, byte) tail ≡ map (moved n) (lexed_from token_rules (place, byte) tail')
   lexed_from_moved_by true place byte tail tail' is same = rw is (same None)
-  lexed_from_moved_by false place byte tail tail' is same = rw is (begun_at_moved (begun_by byte) place tail tail' same)
+  lexed_from_moved_by false place byte tail tail' is same = rw is (lexed_begun_moved (begun_by byte) place tail tail' same)
 
   -- the tokens after what is begun
   abbrev Moves : List ℕ → Type 0
-  Moves bytes = (place : ℕ) (begun : Begun) → lexed_after {E = Infallible} (begun_moved n begun) (numbered (n + place) (items bytes)) ≡ map (moved n) (lexed_after begun (numbered place (items bytes)))
+  Moves bytes = (place : ℕ) (begun : Option Begun) → lexed_by (token_rules {E = Infallible}) (begun_moved n begun) (numbered (n + place) (items bytes)) ≡ map (moved n) (lexed_by token_rules begun (numbered place (items bytes)))
 
-  goes_moved : (o : Option Phase) (first last place byte : ℕ) (phase : Phase) (bytes : List ℕ) → after phase byte ≡ o → Moves bytes → lexed_after {E = Infallible} (Some (n + first, n + last, phase)) (numbered (n + place) (items (byte ∷ bytes))) ≡ map (moved n) (lexed_after (Some (first, last, phase)) (numbered place (items (byte ∷ bytes))))
-  unfolding lexed_after items numbered
+  goes_moved : (o : Option Phase) (first last place byte : ℕ) (phase : Phase) (bytes : List ℕ) → after phase byte ≡ o → Moves bytes → lexed_by (token_rules {E = Infallible}) (Some (n + first, n + last, phase)) (numbered (n + place) (items (byte ∷ bytes))) ≡ map (moved n) (lexed_by token_rules (Some (first, last, phase)) (numbered place (items (byte ∷ bytes))))
+  unfolding lexed_by items numbered
   goes_moved (Some next) first last place byte phase bytes is same =
       let one : n + place + 1 ≡ n + (place + 1) = omega arith in
       rw (is, one) (same (place + 1) (Some (first, place, next)))
   goes_moved None first last place byte phase bytes is same =
       let one : n + place + 1 ≡ n + (place + 1) = omega arith in
-      rw (is, one) (λ i. closed_moved first last phase i ∷ lexed_from_moved_by (is_blank byte) place byte (λ b. lexed_after b (numbered (n + (place + 1)) (items bytes))) (λ b. lexed_after b (numbered (place + 1) (items bytes))) refl (same (place + 1)) i)
+      rw (is, one) (λ i. closed_moved first last phase i ∷ lexed_from_moved_by (is_blank byte) place byte (λ b. lexed_by token_rules b (numbered (n + (place + 1)) (items bytes))) (λ b. lexed_by token_rules b (numbered (place + 1) (items bytes))) refl (same (place + 1)) i)
 
   moves : (bytes : List ℕ) → Moves bytes
-  unfolding lexed_after items numbered
+  unfolding lexed_by items numbered
   moves [] place None = refl
   moves [] place (Some (first, last, phase)) = ap (λ x. x ∷ []) (closed_moved first last phase)
   moves (byte ∷ bytes) place None =
       let one : n + place + 1 ≡ n + (place + 1) = omega arith in
-      rw one (lexed_from_moved_by (is_blank byte) place byte (λ b. lexed_after b (numbered (n + (place + 1)) (items bytes))) (λ b. lexed_after b (numbered (place + 1) (items bytes))) refl (moves bytes (place + 1)))
+      rw one (lexed_from_moved_by (is_blank byte) place byte (λ b. lexed_by token_rules b (numbered (n + (place + 1)) (items bytes))) (λ b. lexed_by token_rules b (numbered (place + 1) (items bytes))) refl (moves bytes (place + 1)))
   moves (byte ∷ bytes) place (Some (first, last, phase)) = goes_moved (after phase byte) first last place byte phase bytes refl (moves bytes)
 
 lexed_moved : (front back : List ℕ) → lexed {E = Infallible} (placed_from (length front) (front ++ back)) ≡ map (moved (length front)) (lexed (placed_from 0 back))

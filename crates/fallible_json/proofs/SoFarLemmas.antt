@@ -12,9 +12,9 @@ use Rattle.std.specs.Option.{is_some}
 use Rattle.std.specs.Str.Lossy.{utf8_error_len, utf8_valid_len}
 use Rattle.program_io.specs.Reading.{ReadsAll}
 use Rattle.fallible_iterator.specs.Lists.{items, numbered}
+use Rattle.fallible_itertools.specs.Lexing.{lexed_by}
 use Rattle.fallible_json.specs.Grammar.{State, begin}
 use Rattle.fallible_json.specs.Json.{not_text_at}
-use Rattle.fallible_json.specs.Lexing.{lexed_after}
 use Rattle.fallible_json.specs.Places.{place_after_bytes}
 use Rattle.fallible_json.specs.Report.{HasTexts, WritesRead, WritesSome}
 use Rattle.fallible_json.specs.Taking.{CountsUpTo, EndTexts, FindsFault, FindsLastFault, Takes, TakesAll, begun_of, ended_of, ◌before◌}
@@ -59,7 +59,7 @@ so_far_of_front : (front rest : List ℕ) → utf8_valid_len (front ++ rest) ≡
 so_far_of_front front rest is = ap (λ (k : ℕ). all_texts cut (take k (front ++ rest))) is ∙ ap (λ l. all_texts cut l) (take-append_seam front rest)
 
 cut_nothing : (origin : ℕ × ℕ) (state : State) (json : List ℕ) → texts_after cut origin (state, json) [] ≡ Err (json, not_text_at (place_after_bytes origin [])) ∷ []
-unfolding texts_from lexed_after numbered items
+unfolding texts_from lexed_by numbered items
 cut_nothing origin state json = refl
 
 some_broken : (l : List ℕ) → is_some (utf8_error_len l) ≡ true → 0 < length l

@@ -6,8 +6,9 @@ use Rattle.std.proofs.lemmas.Bool.Decides.{nat_tests}
 use Rattle.std.proofs.lemmas.List.{drop_all, get_or_append_left}
 use Rattle.fallible_iterator.specs.Lists.{items, numbered, result_answer}
 use Rattle.fallible_iterator.specs.Showing.{TakesShown}
+use Rattle.fallible_itertools.specs.Lexing.{lexed_by}
 use Rattle.fallible_json.specs.Bytes.{KeptByDigits, placed_from, run_from}
-use Rattle.fallible_json.specs.Lexing.{Lexeme, Placed, begun_at, closed, lexed, lexed_after, run_of}
+use Rattle.fallible_json.specs.Lexing.{Lexeme, Placed, closed, lexed, run_of, token_rules}
 use Rattle.fallible_json.specs.Tokens.{after, begun_by, is_blank, letter_begun, sign_of}
 use Rattle.fallible_json.specs.declared.lexer.LexFault.{LexFault}
 use Rattle.fallible_json.specs.declared.lexer.LexFault.TheVariants.{Unknown}
@@ -15,7 +16,7 @@ use Rattle.fallible_json.specs.declared.token.Phase.{Phase}
 use Rattle.fallible_json.specs.declared.token.Phase.TheVariants.{Fraction, Inside, Integer, Power, Whole}
 use Rattle.fallible_json.specs.declared.token.Token.{Token}
 use Rattle.fallible_json.specs.declared.token.Token.TheVariants.{Text}
-use Rattle.fallible_json.proofs.LexingLemmas.{AfterRun, after_run}
+use Rattle.fallible_json.proofs.LexingLemmas.{after_run, lexed_begun, made}
 
 -- ---- the byte at a place, and the end
 
@@ -39,7 +40,7 @@ placed_none text at past = numbered_none (drop at text) at (drop_all at text pas
 -- ---- blanks
 
 lexed_blank_first : (place byte : ℕ) (l : List (Result Placed Infallible)) → is_blank byte ≡ true → lexed (Ok (place, byte) ∷ l) ≡ lexed l
-unfolding lexed_after
+unfolding lexed_by
 lexed_blank_first place byte l is = rw is refl
 
 pub lexed_blank : (text : List ℕ) (at to : ℕ) → to ≡ at + 1 → at < length text → is_blank (get_or text at 0) ≡ true → lexed {E = Infallible} (placed_from at text) ≡ lexed (placed_from to text)
@@ -94,15 +95,15 @@ takes_none [] is = (refl, refl)
 takes_none (x ∷ l) is = absurd cc
 
 pub lexed_none : (text : List ℕ) (at : ℕ) → length text ≤ at → lexed {E = Infallible} (placed_from at text) ≡ []
-unfolding lexed_after
+unfolding lexed_by
 lexed_none text at past = rw (placed_none text at past) refl
 
-lexed_first : (place byte : ℕ) (l : List (Result Placed Infallible)) → is_blank byte ≡ false → lexed (Ok (place, byte) ∷ l) ≡ begun_at (begun_by byte) place (λ b. lexed_after b l)
-unfolding lexed_after
+lexed_first : (place byte : ℕ) (l : List (Result Placed Infallible)) → is_blank byte ≡ false → lexed (Ok (place, byte) ∷ l) ≡ lexed_begun (begun_by byte) place (λ b. lexed_by token_rules b l)
+unfolding lexed_by
 lexed_first place byte l is = rw is refl
 
-lexed_at : (text : List ℕ) (first : ℕ) (begun : Option Phase) → first < length text → is_blank (get_or text first 0) ≡ false → begun_by (get_or text first 0) ≡ begun → lexed {E = Infallible} (placed_from first text) ≡ begun_at begun first (λ b. lexed_after b (placed_from (first + 1) text))
-lexed_at text first begun within blank is = ap lexed (placed_byte text first (first + 1) refl within) ∙ lexed_first first (get_or text first 0) (placed_from (first + 1) text) blank ∙ ap (λ z. begun_at z first (λ b. lexed_after b (placed_from (first + 1) text))) is
+lexed_at : (text : List ℕ) (first : ℕ) (begun : Option Phase) → first < length text → is_blank (get_or text first 0) ≡ false → begun_by (get_or text first 0) ≡ begun → lexed {E = Infallible} (placed_from first text) ≡ lexed_begun begun first (λ b. lexed_by token_rules b (placed_from (first + 1) text))
+lexed_at text first begun within blank is = ap lexed (placed_byte text first (first + 1) refl within) ∙ lexed_first first (get_or text first 0) (placed_from (first + 1) text) blank ∙ ap (λ z. lexed_begun z first (λ b. lexed_by token_rules b (placed_from (first + 1) text))) is
 
 -- of what is shown a byte is taken that begins no token
 pub takes_unknown : (text : List ℕ) (place first : ℕ) → lexed {E = Infallible} (placed_from place text) ≡ lexed (placed_from first text) → first < length text → is_blank (get_or text first 0) ≡ false → begun_by (get_or text first 0) ≡ None → TakesShown (lexed {E = Infallible} (placed_from place text)) (Err (Unknown first)) (lexed {E = Infallible} (placed_from (first + 1) text))
@@ -114,7 +115,7 @@ takes_token_at text place first end begun phase same within blank is run =
     let rest : List (Result Placed Infallible) = placed_from (first + 1) text in
     let back : first + 1 - 1 ≡ first = omega arith in
     let here : run_of (first, begun) rest ≡ (Ok (end - 1, phase), placed_from end text) = subst (λ k. run_of (k, begun) rest ≡ (Ok (end - 1, phase), placed_from end text)) back run in
-    let closes : AfterRun first (Ok (end - 1, phase)) (lexed_after (Some (first, first, begun)) rest) (placed_from end text) = subst (λ p. AfterRun first p.0 (lexed_after (Some (first, first, begun)) rest) p.1) here (after_run first first begun rest) in
+    let closes : lexed_by token_rules (Some (first, first, begun)) rest ≡ closed first (end - 1) phase ∷ lexed (placed_from end text) = (after_run first first begun rest).0 ∙ ap (λ p. made first p.0 ∷ lexed p.1) here in
     subst (λ k. TakesShown k (result_answer (closed first (end - 1) phase)) (lexed {E = Infallible} (placed_from end text))) (sym (same ∙ lexed_at text first (Some begun) within blank is ∙ closes)) (refl, refl)
 
 -- a byte that is a token alone

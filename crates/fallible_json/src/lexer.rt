@@ -1,13 +1,13 @@
 //! The tokens of any iterator of bytes that come with their places, read by looking one byte ahead.
-ghost use Rattle.std.specs.Prelude.{◌≡◌, ℕ, List, None, Ok, Result};
+ghost use Rattle.std.specs.Prelude.{◌≡◌, ℕ, List, Result};
 ghost use Rattle.fallible_iterator.specs.Contract.{Stays};
 ghost use Rattle.fallible_iterator.specs.Laws.Contract.{lawful_parts};
 ghost use Rattle.fallible_iterator.specs.Laws.Peeking.Peekable.{lawful_peekable};
 ghost use Rattle.fallible_iterator.specs.Lists.{Lists, result_answer};
 ghost use Rattle.fallible_iterator.specs.Peeking.Peekable.{peekable_made, peekable_parts};
-ghost use Rattle.fallible_itertools.specs.Ahead.{Lowers, making};
+ghost use Rattle.fallible_itertools.specs.Ahead.{making};
 ghost use Rattle.fallible_itertools.specs.Laws.Ahead.{lawful_making};
-ghost use Rattle.fallible_json.specs.Lexing.{Placed, closed, first_byte, lexed, rest_byte, rest_lexed, run_of, with_byte};
+ghost use Rattle.fallible_json.specs.Lexing.{Placed, closed, lexed, rest_lexed, run_of, with_byte};
 
 use crate::token::{Phase, Token, after, begun_by, goes_on, is_blank, token_of};
 use crate::wanted::{Wanted, wanted_in};
@@ -46,27 +46,6 @@ pub(crate) fn closed<E>(
         Some(token) => Ok(Some((first, last, token))),
         None => Err(LexFault::Unfinished(last, wanted_in(phase))),
     }
-}
-
-// Draws up to the first byte that is no blank.
-fn first_byte<I: FallibleIterator<Item = (usize, u8)>>(
-    ahead: &mut Peekable<I>,
-) -> Result<Option<(usize, u8)>, I::Error>
-where
-    requires can_next { ⟦<Peekable<I> as FallibleIterator>⟧.contract.can_next ahead.old }
-    requires finite { ⟦<Peekable<I> as FallibleIterator>⟧.contract.is_finite ahead.old }
-    ensures value { (l : List (Result Placed I.Error))
-        → Lists ⟦<Peekable<I> as FallibleIterator>⟧.contract.steps ahead.old l
-        → result ≡ first_byte l }
-    ensures rest { (l : List (Result Placed I.Error))
-        → Lists ⟦<Peekable<I> as FallibleIterator>⟧.contract.steps ahead.old l
-        → ¬ (result ≡ Ok None)
-        → Lists ⟦<Peekable<I> as FallibleIterator>⟧.contract.steps ahead.new (rest_byte l) }
-    ensures stays { Stays ⟦<Peekable<I> as FallibleIterator>⟧.contract ahead.old ahead.new }
-    ensures lowers { Lowers ⟦<Peekable<I> as FallibleIterator>⟧.contract
-        ahead.old result ahead.new }
-{
-    ahead.find(|next| Ok(!is_blank(next.1)))
 }
 
 // Draws the bytes that go on with a token that was begun. The place of its last byte, and what the token is then.
@@ -123,7 +102,7 @@ impl<I: FallibleIterator<Item = (usize, u8)>> FallibleIterator for Tokens<I> {
 
     /// Returns the next token and its places.
     fn next(&mut self) -> Result<Option<(usize, usize, Token)>, LexFault<I::Error>> {
-        let (first, byte) = match first_byte(&mut self.ahead) {
+        let (first, byte) = match self.ahead.find(|next| Ok(!is_blank(next.1))) {
             Ok(Some(first)) => first,
             Ok(None) => return Ok(None),
             Err(e) => return Err(LexFault::Source(e)),

@@ -1,0 +1,42 @@
+-- Tokens of a list, read by looking one item ahead.
+use Rattle.std.specs.Prelude.{if◌then◌else◌, Bool, Option, Some, None, Result, Ok, Err, List, [], ◌∷◌}
+
+-- How items A make tokens B and faults F, and failures E of the source faults. An S is what is known of a token that is begun.
+pub record TokenRules (A S E B F : Type 0) : Type 0 where
+  -- whether an item stands between tokens, as a blank does
+  pub skips : A → Bool
+  -- the token that another item begins, if it begins one that may go on
+  pub begins : A → Option S
+  -- the token with an item more, if the item goes on with it
+  pub goes_on : S → A → Option S
+  -- the token where no item goes on with it, or why it is none
+  pub closed : S → Result B F
+  -- the token that an item is alone, or why it is none
+  pub alone : A → Result B F
+  -- the fault that a failure of the source is
+  pub told : E → F
+
+-- by what an item begins or goes on with: where there is nothing, and where there is
+abbrev pub where_goes : {S R : Type 0} → Option S → R → (S → R) → R
+where_goes None stops goes = stops
+where_goes (Some s) stops goes = goes s
+
+module _ {A S E B F : Type 0} (rules : TokenRules A S E B F) where
+  -- the tokens from an item on; `tail` makes the tokens after it, by what is begun
+  abbrev pub lexed_from : A → (Option S → List (Result B F)) → List (Result B F)
+  lexed_from x tail = if rules.skips x then tail None else where_goes (rules.begins x) (rules.alone x ∷ tail None) (λ s. tail (Some s))
+
+  -- The tokens of a list after what is begun. An item that goes on with it belongs to it. Another item and the end close it. At a failure of the source it is lost.
+  unfoldable pub lexed_by : Option S → List (Result A E) → List (Result B F)
+  lexed_by None [] = []
+  lexed_by (Some s) [] = rules.closed s ∷ []
+  lexed_by None (Ok x ∷ l) = lexed_from x (λ begun. lexed_by begun l)
+  lexed_by (Some s) (Ok x ∷ l) = where_goes (rules.goes_on s x) (rules.closed s ∷ lexed_from x (λ begun. lexed_by begun l)) (λ t. lexed_by (Some t) l)
+  lexed_by begun (Err e ∷ l) = Err (rules.told e) ∷ lexed_by None l
+
+  -- What one answer leaves of a list after what is begun: what comes after the token, or after the failure that comes before its end.
+  unfoldable pub rest_lexed_by : Option S → List (Result A E) → List (Result A E)
+  rest_lexed_by begun [] = []
+  rest_lexed_by None (Ok x ∷ l) = if rules.skips x then rest_lexed_by None l else where_goes (rules.begins x) l (λ s. rest_lexed_by (Some s) l)
+  rest_lexed_by (Some s) (Ok x ∷ l) = where_goes (rules.goes_on s x) (Ok x ∷ l) (λ t. rest_lexed_by (Some t) l)
+  rest_lexed_by begun (Err e ∷ l) = l
