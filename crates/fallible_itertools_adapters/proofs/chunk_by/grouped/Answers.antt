@@ -1,7 +1,7 @@
 -- What becomes of the item, by its key and the group that is held.
 use Rattle.std.specs.Prelude.{Some, None}
 use Rattle.std.proofs.Common.{refl, sym, ◌∙◌}
-use Rattle.fallible_itertools_adapters.proofs.Lemmas.ChunkBy.{grouped_first, grouped_other, grouped_refused, grouped_same, grouped_same_refused, none_joined_where_differ}
+use Rattle.fallible_itertools_adapters.proofs.Lemmas.ChunkBy.{grouped_first, grouped_other, grouped_refused, grouped_same, grouped_same_refused, no_items_of_key_where_differ}
 use Rattle.fallible_itertools_adapters.proofs.chunk_by.grouped.Goals as goal
 use Rattle.fallible_itertools_adapters.proofs.chunk_by.grouped.Goals.{in-Ok, in-Err, in-Some+else-eq, in-None}
 
@@ -17,4 +17,4 @@ returns-in-None-replace g c = let held = sym c.in-None-replace.is ∙ c.replace.
     elim c.match-group.branch [ in-Some+else-eq w ↦ absurd (let e = held ∙ w.group-is in cc) | in-None w ↦ rw w.in-None.is (grouped_first g.E.From.from_gives g.K.PartialEq.eq c.args.key c.args.item c.in-Ok-alone.first c.replace.new.self c.in-Ok-alone.ensures.0 c.replace.ensures.after) ]
 
 pub returns-in-Err-alone : goal.returns-in-Err-alone
-returns-in-Err-alone g c = elim c.match-group.branch [ in-Some+else-eq w ↦ rw w.in-Some.is (grouped_refused g.E.From.from_gives g.K.PartialEq.eq (Some (w.in-Some.of, w.in-Some.items)) c.args.key c.args.item c.in-Err-alone.refused c.from-in-Err-alone.result c.take-in-Err-alone.result c.let_go-in-Err-alone.result c.take-in-Err-alone.new.self (none_joined_where_differ g.E.From.from_gives g.K.PartialEq.eq (w.in-Some.of, w.in-Some.items) c.args.key (sym w.eq.ensures ∙ w.if-eq.false)) c.from-in-Err-alone.ensures (c.take-in-Err-alone.ensures.value ∙ w.group-is) c.let_go-in-Err-alone.ensures c.take-in-Err-alone.ensures.after) | in-None w ↦ rw w.in-None.is (grouped_refused g.E.From.from_gives g.K.PartialEq.eq None c.args.key c.args.item c.in-Err-alone.refused c.from-in-Err-alone.result c.take-in-Err-alone.result c.let_go-in-Err-alone.result c.take-in-Err-alone.new.self refl c.from-in-Err-alone.ensures (c.take-in-Err-alone.ensures.value ∙ w.group-is ∙ w.in-None.is) c.let_go-in-Err-alone.ensures c.take-in-Err-alone.ensures.after) ]
+returns-in-Err-alone g c = elim c.match-group.branch [ in-Some+else-eq w ↦ rw w.in-Some.is (grouped_refused g.E.From.from_gives g.K.PartialEq.eq (Some (w.in-Some.of, w.in-Some.items)) c.args.key c.args.item c.in-Err-alone.refused c.from-in-Err-alone.result c.take-in-Err-alone.result c.let_go-in-Err-alone.result c.take-in-Err-alone.new.self (no_items_of_key_where_differ g.E.From.from_gives g.K.PartialEq.eq (w.in-Some.of, w.in-Some.items) c.args.key (sym w.eq.ensures ∙ w.if-eq.false)) c.from-in-Err-alone.ensures (c.take-in-Err-alone.ensures.value ∙ w.group-is) c.let_go-in-Err-alone.ensures c.take-in-Err-alone.ensures.after) | in-None w ↦ rw w.in-None.is (grouped_refused g.E.From.from_gives g.K.PartialEq.eq None c.args.key c.args.item c.in-Err-alone.refused c.from-in-Err-alone.result c.take-in-Err-alone.result c.let_go-in-Err-alone.result c.take-in-Err-alone.new.self refl c.from-in-Err-alone.ensures (c.take-in-Err-alone.ensures.value ∙ w.group-is ∙ w.in-None.is) c.let_go-in-Err-alone.ensures c.take-in-Err-alone.ensures.after) ]
