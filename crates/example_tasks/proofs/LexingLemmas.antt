@@ -39,5 +39,6 @@ module _ {E : Type 0} (kind : Kind) (place : ℕ) where
   after_value value (Ok (at, byte) ∷ l) = after_value_item (belongs kind byte) at byte value l refl (after_value (with_byte kind value byte) l)
   after_value value (Err e ∷ l) = (refl, refl)
 
+  -- the draws of a value take the first token
   pub takes_value : {P : Type 0} {m : Contract P Placed E} {value : Option ℕ} {t v : P} {w q : Result (Option ℕ) E} → Stays m t v → ((l : List (Result Placed E)) → Lists m.steps t l → w ≡ value_taken kind value l) → ((l : List (Result Placed E)) → Lists m.steps t l → Lists m.steps v (rest_value kind value l)) → w ≡ q → TakesRest token_rules m (kind, place, value) t (made q) v
   takes_value {value = value} stays answer rest is = takes_rest token_rules made (after_value value) stays answer rest is

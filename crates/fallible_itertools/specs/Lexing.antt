@@ -1,22 +1,22 @@
 -- Tokens of a list, read by looking one item ahead.
 use Rattle.std.specs.Prelude.{if◌then◌else◌, Bool, Option, Some, None, Result, Ok, Err, List, [], ◌∷◌}
 
--- How items A make tokens B and faults F, and failures E of the source faults. An S is what is known of a token that is begun.
+-- How a lexer makes tokens B of items A. An S is a token that is begun, E is what its source fails with, and F what it fails with itself.
 pub record TokenRules (A S E B F : Type 0) : Type 0 where
   -- whether an item stands between tokens, as a blank does
   pub skips : A → Bool
-  -- the token that another item begins, if it begins one that may go on
+  -- what another item begins, if it begins a token that may go on
   pub begins : A → Option S
-  -- the token with an item more, if the item goes on with it
+  -- what is begun with an item more, if the item goes on with it
   pub goes_on : S → A → Option S
-  -- the token where no item goes on with it, or why it is none
+  -- the token that ends here, or why it is none
   pub closed : S → Result B F
-  -- the token that an item is alone, or why it is none
+  -- the token that an item is which begins nothing, or why it is none
   pub alone : A → Result B F
-  -- the fault that a failure of the source is
+  -- how a failure of the source is told
   pub told : E → F
 
--- by what an item begins or goes on with: where there is nothing, and where there is
+-- by what an item begins or goes on with: where that is nothing, and where it is something
 abbrev pub where_goes : {S R : Type 0} → Option S → R → (S → R) → R
 where_goes None stops goes = stops
 where_goes (Some s) stops goes = goes s

@@ -2,7 +2,7 @@
 use Rattle.std.proofs.Common.{Bool, true, false, ◌≡◌, ◌⊎◌, inl, inr, ℕ, ◌<◌, List, [], ◌∷◌, ◌++◌, length, Option, Some, None, Ok, Err, if◌then◌else◌, arith, refl, sym, ap, subst, ◌∙◌, append_assoc, append-nil}
 use Rattle.std.specs.Prelude.{◌≢◌}
 use Rattle.fallible_iterator.specs.Lists.{items, numbered}
-use Rattle.fallible_json.specs.Grammar.{State, after_token, begin, first_in, is_whole, next_in, step_of, taken, taken_if}
+use Rattle.fallible_json.specs.Grammar.{State, after_token, begin, expected_first_in, is_whole, next_in, step_of, taken, taken_if}
 use Rattle.fallible_json.specs.Lexing.{lexed}
 use Rattle.fallible_json.specs.Minifying.{bytes_of}
 use Rattle.fallible_json.specs.Taking.{◌before◌}
@@ -99,7 +99,7 @@ IsIn s = (0 < length s.0) ⊎ (s.1 ≡ AfterValue)
 
 in_taken : (containers : List Container) (step : Step) (next : State) → 0 < length containers → taken containers step ≡ Some next → IsIn next
 in_taken containers Scalar next some is = let e : (containers, AfterValue) ≡ next = cc in inr (sym (ap (λ (s : State). s.1) e))
-in_taken containers (Opens c) next some is = let e : (c ∷ containers, first_in c) ≡ next = cc in inl (subst (λ (s : State). 0 < length s.0) e (omega arith))
+in_taken containers (Opens c) next some is = let e : (c ∷ containers, expected_first_in c) ≡ next = cc in inl (subst (λ (s : State). 0 < length s.0) e (omega arith))
 in_taken [] (Closes c) next some is = absurd (omega arith)
 in_taken (Array ∷ containers) (Closes Array) next some is = let e : (containers, AfterValue) ≡ next = cc in inr (sym (ap (λ (s : State). s.1) e))
 in_taken (Array ∷ containers) (Closes Object) next some is = absurd cc

@@ -44,5 +44,6 @@ module _ {E : Type 0} where
     after_run last phase (Ok (place, byte) ∷ l) = after_run_item (after phase byte) last phase place byte l refl (λ next. after_run place next l)
     after_run last phase (Err e ∷ l) = (refl, refl)
 
+  -- the draws of a run take the first token
   pub takes_run : {P : Type 0} {m : Contract P Placed E} {place : ℕ} {phase : Phase} {t v : P} {w q : Result (ℕ × Phase) E} → Stays m t v → ((l : List (Result Placed E)) → Lists m.steps t l → w ≡ (run_of (place, phase) l).0) → ((l : List (Result Placed E)) → Lists m.steps t l → Lists m.steps v (run_of (place, phase) l).1) → w ≡ q → TakesRest token_rules m (place, place, phase) t (made place q) v
   takes_run {place = place} {phase = phase} stays value rest is = takes_rest token_rules (made place) (after_run place place phase) stays value rest is

@@ -1,7 +1,8 @@
 -- What one byte more makes of a place.
-use Rattle.std.specs.Prelude.{◌≡◌, ℕ, zero, suc, ◌+◌, ◌<◌, ◌≤◌, ◌-◌, ◌==◌, Bool, true, false, if◌then◌else◌, List, [], ◌∷◌, ◌++◌, length, take, drop}
+use Rattle.std.specs.Prelude.{◌≡◌, ℕ, zero, suc, ◌+◌, ◌<◌, ◌≤◌, ◌-◌, ◌==◌, Bool, true, false, cond, not, if◌then◌else◌, List, [], ◌∷◌, ◌++◌, length, count_by, take, drop}
 use Rattle.std.proofs.Common.{arith, refl, sym, ap, subst, ◌∙◌, get_or, drop-cons, take-append-drop}
 use Rattle.std.proofs.lemmas.List.{drop_all, take_more}
+use Rattle.std.proofs.lemmas.List.Sums.{sum_by-cons, sum_by-drop_more}
 use Rattle.fallible_json.specs.Places.{after_byte, chars_in, is_within, lines_in, place_after_bytes}
 
 pub place_after_one_more : (place : ℕ × ℕ) (bytes : List ℕ) (n : ℕ) → n < length bytes → place_after_bytes place (drop n bytes) ≡ place_after_bytes (after_byte place (get_or bytes n 0)) (drop (n + 1) bytes)
@@ -43,34 +44,12 @@ within_after_bytes place (byte ∷ bytes) n line column =
 
 -- ---- lines and characters, counted
 
-lines_by : (feed : Bool) (byte : ℕ) (bytes : List ℕ) → (byte == 10) ≡ feed → lines_in (byte ∷ bytes) ≡ (if feed then lines_in bytes + 1 else lines_in bytes)
-unfolding lines_in
-lines_by true byte bytes is = rw is (let one : suc (lines_in bytes) ≡ lines_in bytes + 1 = omega arith in one)
-lines_by false byte bytes is = rw is refl
+counts : (p : ℕ → Bool) (is : Bool) (byte : ℕ) (bytes : List ℕ) → p byte ≡ is → count_by p (byte ∷ bytes) ≡ (if is then count_by p bytes + 1 else count_by p bytes)
+counts p true byte bytes is = sum_by-cons (λ x. cond (p x) 1 0) byte bytes ∙ ap (λ b. cond b 1 0 + count_by p bytes) is ∙ (let one : 1 + count_by p bytes ≡ count_by p bytes + 1 = omega arith in one)
+counts p false byte bytes is = sum_by-cons (λ x. cond (p x) 1 0) byte bytes ∙ ap (λ b. cond b 1 0 + count_by p bytes) is ∙ (let none : 0 + count_by p bytes ≡ count_by p bytes = omega arith in none)
 
-chars_by : (goes : Bool) (byte : ℕ) (bytes : List ℕ) → is_within byte ≡ goes → chars_in (byte ∷ bytes) ≡ (if goes then chars_in bytes else chars_in bytes + 1)
-unfolding chars_in
-chars_by true byte bytes is = rw is refl
-chars_by false byte bytes is = rw is (let one : suc (chars_in bytes) ≡ chars_in bytes + 1 = omega arith in one)
-
--- one byte more
-pub lines_more : (feed : Bool) (bytes : List ℕ) (n : ℕ) → n < length bytes → (get_or bytes n 0 == 10) ≡ feed → lines_in (drop n bytes) ≡ (if feed then lines_in (drop (n + 1) bytes) + 1 else lines_in (drop (n + 1) bytes))
-lines_more feed bytes n within is =
-    let one : suc n ≡ n + 1 = omega arith in
-    ap lines_in (drop-cons bytes n 0 within) ∙ subst (λ k. lines_in (get_or bytes n 0 ∷ drop (suc n) bytes) ≡ (if feed then lines_in (drop k bytes) + 1 else lines_in (drop k bytes))) one (lines_by feed (get_or bytes n 0) (drop (suc n) bytes) is)
-
-pub chars_more : (goes : Bool) (bytes : List ℕ) (n : ℕ) → n < length bytes → is_within (get_or bytes n 0) ≡ goes → chars_in (drop n bytes) ≡ (if goes then chars_in (drop (n + 1) bytes) else chars_in (drop (n + 1) bytes) + 1)
-chars_more goes bytes n within is =
-    let one : suc n ≡ n + 1 = omega arith in
-    ap chars_in (drop-cons bytes n 0 within) ∙ subst (λ k. chars_in (get_or bytes n 0 ∷ drop (suc n) bytes) ≡ (if goes then chars_in (drop k bytes) else chars_in (drop k bytes) + 1)) one (chars_by goes (get_or bytes n 0) (drop (suc n) bytes) is)
-
-pub lines_none : (bytes : List ℕ) (n : ℕ) → length bytes ≤ n → lines_in (drop n bytes) ≡ 0
-unfolding lines_in
-lines_none bytes n past = ap lines_in (drop_all n bytes past)
-
-pub chars_none : (bytes : List ℕ) (n : ℕ) → length bytes ≤ n → chars_in (drop n bytes) ≡ 0
-unfolding chars_in
-chars_none bytes n past = ap chars_in (drop_all n bytes past)
+pub no_line_more : (bytes : List ℕ) (n : ℕ) → n < length bytes → (get_or bytes n 0 == 10) ≡ false → lines_in (drop n bytes) ≡ lines_in (drop (n + 1) bytes)
+no_line_more bytes n within is = sum_by-drop_more (λ x. cond (x == 10) 1 0) bytes n 0 within ∙ ap (λ b. cond b 1 0 + lines_in (drop (n + 1) bytes)) is ∙ (let none : 0 + lines_in (drop (n + 1) bytes) ≡ lines_in (drop (n + 1) bytes) = omega arith in none)
 
 -- the line is so many further on
 line_by : (feed goes : Bool) (place : ℕ × ℕ) (byte : ℕ) → (byte == 10) ≡ feed → is_within byte ≡ goes → (after_byte place byte).0 ≡ (if feed then place.0 + 1 else place.0)
@@ -81,15 +60,15 @@ line_by false false place byte is w = rw (is, w) refl
 line_step : (feed : Bool) (place : ℕ × ℕ) (byte : ℕ) (bytes : List ℕ) → (byte == 10) ≡ feed → (place_after_bytes (after_byte place byte) bytes).0 ≡ (after_byte place byte).0 + lines_in bytes → (place_after_bytes (after_byte place byte) bytes).0 ≡ place.0 + lines_in (byte ∷ bytes)
 line_step true place byte bytes is on =
     let first = line_by true (is_within byte) place byte is refl in
-    let count = lines_by true byte bytes is in
+    let count = counts (λ b. b == 10) true byte bytes is in
     omega (arith, on, first, count)
 line_step false place byte bytes is on =
     let first = line_by false (is_within byte) place byte is refl in
-    let count = lines_by false byte bytes is in
+    let count = counts (λ b. b == 10) false byte bytes is in
     omega (arith, on, first, count)
 
 line_after : (place : ℕ × ℕ) (bytes : List ℕ) → (place_after_bytes place bytes).0 ≡ place.0 + lines_in bytes
-unfolding place_after_bytes lines_in
+unfolding place_after_bytes
 line_after place [] = omega arith
 line_after place (byte ∷ bytes) = line_step (byte == 10) place byte bytes refl (line_after (after_byte place byte) bytes)
 
@@ -98,20 +77,20 @@ abbrev OneLine : List ℕ → Type 0
 OneLine bytes = (line column : ℕ) → lines_in bytes ≡ 0 → place_after_bytes (line, column) bytes ≡ (line, column + chars_in bytes)
 
 line_goes : (feed goes : Bool) (line column byte : ℕ) (bytes : List ℕ) → (byte == 10) ≡ feed → is_within byte ≡ goes → lines_in (byte ∷ bytes) ≡ 0 → OneLine bytes → place_after_bytes (after_byte (line, column) byte) bytes ≡ (line, column + chars_in (byte ∷ bytes))
-line_goes true goes line column byte bytes is w none on = absurd (let count = lines_by true byte bytes is in omega (arith, none, count))
+line_goes true goes line column byte bytes is w none on = absurd (let count = counts (λ b. b == 10) true byte bytes is in omega (arith, none, count))
 line_goes false true line column byte bytes is w none on =
-    let count = lines_by false byte bytes is in
+    let count = counts (λ b. b == 10) false byte bytes is in
     let here : after_byte (line, column) byte ≡ (line, column) = rw (is, w) refl in
-    ap (λ p. place_after_bytes p bytes) here ∙ on line column (omega (arith, none, count)) ∙ ap (λ c. (line, column + c)) (sym (chars_by true byte bytes w))
+    ap (λ p. place_after_bytes p bytes) here ∙ on line column (omega (arith, none, count)) ∙ ap (λ c. (line, column + c)) (sym (counts (λ b. not (is_within b)) false byte bytes (ap not w)))
 line_goes false false line column byte bytes is w none on =
-    let count = lines_by false byte bytes is in
-    let chars = chars_by false byte bytes w in
+    let count = counts (λ b. b == 10) false byte bytes is in
+    let chars = counts (λ b. not (is_within b)) true byte bytes (ap not w) in
     let here : after_byte (line, column) byte ≡ (line, column + 1) = rw (is, w) refl in
     let same : column + 1 + chars_in bytes ≡ column + chars_in (byte ∷ bytes) = omega (arith, chars) in
     ap (λ p. place_after_bytes p bytes) here ∙ on line (column + 1) (omega (arith, none, count)) ∙ ap (λ c. (line, c)) same
 
 one_line : (bytes : List ℕ) → OneLine bytes
-unfolding place_after_bytes chars_in
+unfolding place_after_bytes
 one_line [] line column none = let k : column ≡ column + 0 = omega arith in ap (λ c. (line, c)) k
 one_line (byte ∷ bytes) line column none = line_goes (byte == 10) (is_within byte) line column byte bytes refl refl none (one_line bytes)
 

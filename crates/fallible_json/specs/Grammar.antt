@@ -36,9 +36,9 @@ step_of AfterValue EndObject = Some (Closes Object)
 step_of AfterValue token = None
 
 -- what may come first in a container: a value or its end, or a name or its end
-abbrev pub first_in : Container → Expects
-first_in Array = ValueOrEnd
-first_in Object = NameOrEnd
+abbrev pub expected_first_in : Container → Expects
+expected_first_in Array = ValueOrEnd
+expected_first_in Object = NameOrEnd
 
 -- what may come after a comma in a container: a value, or a name
 abbrev pub next_in : Container → Expects
@@ -52,7 +52,7 @@ State = List Container × Expects
 -- What a step makes of the containers that are open. A container ends where it is the innermost. A comma stands in a container.
 abbrev pub taken : List Container → Step → Option State
 taken containers Scalar = Some (containers, AfterValue)
-taken containers (Opens container) = Some (container ∷ containers, first_in container)
+taken containers (Opens container) = Some (container ∷ containers, expected_first_in container)
 taken (Array ∷ containers) (Closes Array) = Some (containers, AfterValue)
 taken (Object ∷ containers) (Closes Object) = Some (containers, AfterValue)
 taken containers (Closes container) = None

@@ -1,5 +1,5 @@
 -- The line and the column of a byte of a text.
-use Rattle.std.specs.Prelude.{ℕ, suc, ◌+◌, ◌==◌, ◌&&◌, nat_le, nat_lt, if◌then◌else◌, Bool, List, [], ◌∷◌, take}
+use Rattle.std.specs.Prelude.{ℕ, ◌+◌, ◌==◌, ◌&&◌, nat_le, nat_lt, if◌then◌else◌, Bool, not, List, [], ◌∷◌, count_by, take}
 
 -- whether a byte goes on with a character of UTF-8: whether it is 128 to 191
 abbrev pub is_within : ℕ → Bool
@@ -15,14 +15,12 @@ place_after_bytes place [] = place
 place_after_bytes place (byte ∷ bytes) = place_after_bytes (after_byte place byte) bytes
 
 -- how many line feeds there are
-unfoldable pub lines_in : List ℕ → ℕ
-lines_in [] = 0
-lines_in (byte ∷ bytes) = if byte == 10 then suc (lines_in bytes) else lines_in bytes
+abbrev pub lines_in : List ℕ → ℕ
+lines_in bytes = count_by (λ byte. byte == 10) bytes
 
 -- how many characters begin
-unfoldable pub chars_in : List ℕ → ℕ
-chars_in [] = 0
-chars_in (byte ∷ bytes) = if is_within byte then chars_in bytes else suc (chars_in bytes)
+abbrev pub chars_in : List ℕ → ℕ
+chars_in bytes = count_by (λ byte. not (is_within byte)) bytes
 
 -- the line and the column of the byte that has so many before it
 abbrev pub place_of : List ℕ → ℕ → ℕ × ℕ

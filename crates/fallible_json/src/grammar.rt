@@ -1,6 +1,6 @@
 //! Which tokens may come, token by token.
 ghost use Rattle.std.specs.Prelude.{◌≡◌, ◌≢◌, MatchResult, Err, None, Ok, Some, reverse};
-ghost use Rattle.fallible_json.specs.Grammar.{after_token, first_in, is_whole, next_in, step_of, taken, value_step};
+ghost use Rattle.fallible_json.specs.Grammar.{after_token, expected_first_in, is_whole, next_in, step_of, taken, value_step};
 ghost use Rattle.fallible_json.specs.Wanted.{wanted_of};
 
 use crate::token::Token;
@@ -86,8 +86,8 @@ fn step_of(expects: Expects, token: Token) -> Option<Step>
 }
 
 // What may come first in a container.
-fn first_in(container: Container) -> Expects
-    ensures { result ≡ first_in container }
+fn expected_first_in(container: Container) -> Expects
+    ensures { result ≡ expected_first_in container }
 {
     match container {
         Container::Array => Expects::ValueOrEnd,
@@ -130,7 +130,7 @@ impl Nesting {
                 if self.containers.push(container).is_err() {
                     return Err(Stop::Memory);
                 }
-                self.expects = first_in(container);
+                self.expects = expected_first_in(container);
             }
             Step::Closes(container) => {
                 match (self.containers.last(), container) {

@@ -19,6 +19,8 @@ pub trait MakeTexts {
     ghost refused: { Self → Type 0 };
 
     /// Takes what no further byte could change. How many of the bytes that is; or the first fault.
+    ///
+    /// Requires that each count of the texts has room for twice as many bytes.
     fn push(&self, texts: &mut Texts, bytes: &[u8]) -> Result<usize, Fault<JsonFault>>
         requires { Fits texts.old (2 * length bytes.now) }
         ensures taken { IfOk result (λ taken. Takes texts.old bytes.now taken texts.new) }
@@ -27,6 +29,8 @@ pub trait MakeTexts {
         ensures memory { (error : AllocError) → result ≡ Err (Memory error) → refused self.now };
 
     /// Takes the last bytes, and ends the text that is begun; or the first fault.
+    ///
+    /// Requires that each count of the texts has room for twice as many bytes.
     fn finish(&self, texts: &mut Texts, bytes: &[u8]) -> Result<(), Fault<JsonFault>>
         requires { Fits texts.old (2 * length bytes.now) }
         ensures all { OnOk result (TakesAll texts.old bytes.now texts.new) }

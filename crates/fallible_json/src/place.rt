@@ -14,13 +14,7 @@ fn lines_in(bytes: &[u8]) -> usize
     ensures count { result ≡ lines_in bytes.now }
     ensures few { result ≤ length bytes.now }
 {
-    let mut count = 0;
-    for byte in bytes {
-        if *byte == b'\n' {
-            count += 1;
-        }
-    }
-    count
+    bytes.iter().filter(|byte| **byte == b'\n').count()
 }
 
 // How many characters begin.
@@ -28,13 +22,7 @@ fn chars_in(bytes: &[u8]) -> usize
     ensures count { result ≡ chars_in bytes.now }
     ensures few { result ≤ length bytes.now }
 {
-    let mut count = 0;
-    for byte in bytes {
-        if !is_within(*byte) {
-            count += 1;
-        }
-    }
-    count
+    bytes.iter().filter(|byte| !is_within(**byte)).count()
 }
 
 // Where the last line begins.

@@ -81,7 +81,7 @@ fn step_of(expects: Expects, token: Token) -> Option<Step> {
 }
 
 // What may come first in a container.
-fn first_in(container: Container) -> Expects {
+fn expected_first_in(container: Container) -> Expects {
     match container {
         Container::Array => Expects::ValueOrEnd,
         Container::Object => Expects::NameOrEnd,
@@ -112,7 +112,7 @@ impl Nesting {
                 if self.containers.try_push(container).is_err() {
                     return Err(Stop::Memory);
                 }
-                self.expects = first_in(container);
+                self.expects = expected_first_in(container);
             }
             Step::Closes(container) => {
                 match (self.containers.last(), container) {

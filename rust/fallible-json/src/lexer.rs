@@ -35,13 +35,6 @@ pub(crate) fn closed<E>(
     }
 }
 
-// Draws up to the first byte that is no blank.
-fn first_byte<I: FallibleIterator<Item = (usize, u8)>>(
-    ahead: &mut Peekable<I>,
-) -> Result<Option<(usize, u8)>, I::Error> {
-    ahead.find(|next| Ok(!is_blank(next.1)))
-}
-
 // Draws the bytes that go on with a token that was begun. The place of its last byte, and what the token is then.
 fn run_of<I: FallibleIterator<Item = (usize, u8)>>(
     ahead: &mut Peekable<I>,
@@ -78,7 +71,7 @@ impl<I: FallibleIterator<Item = (usize, u8)>> FallibleIterator for Tokens<I> {
 
     /// Returns the next token and its places.
     fn next(&mut self) -> Result<Option<(usize, usize, Token)>, LexFault<I::Error>> {
-        let (first, byte) = match first_byte(&mut self.ahead) {
+        let (first, byte) = match self.ahead.find(|next| Ok(!is_blank(next.1))) {
             Ok(Some(first)) => first,
             Ok(None) => return Ok(None),
             Err(e) => return Err(LexFault::Source(e)),

@@ -12,6 +12,8 @@ const BUFFER: usize = 65536;
 pub trait MakeTexts {
     /// Takes what no further byte could change. How many of the bytes that is; or the first fault.
     ///
+    /// Requires that each count of the texts has room for twice as many bytes.
+    ///
     /// <details><summary>Contract</summary>
     ///
     /// As it is proved, in [these words](crate::words):
@@ -27,6 +29,8 @@ pub trait MakeTexts {
     fn push(&self, texts: &mut Texts, bytes: &[u8]) -> Result<usize, Fault<JsonFault>>;
 
     /// Takes the last bytes, and ends the text that is begun; or the first fault.
+    ///
+    /// Requires that each count of the texts has room for twice as many bytes.
     ///
     /// <details><summary>Contract</summary>
     ///

@@ -7,24 +7,12 @@ fn is_within(byte: u8) -> bool {
 
 // How many line feeds there are.
 fn lines_in(bytes: &[u8]) -> usize {
-    let mut count = 0;
-    for byte in bytes {
-        if *byte == b'\n' {
-            count += 1;
-        }
-    }
-    count
+    bytes.iter().filter(|byte| **byte == b'\n').count()
 }
 
 // How many characters begin.
 fn chars_in(bytes: &[u8]) -> usize {
-    let mut count = 0;
-    for byte in bytes {
-        if !is_within(*byte) {
-            count += 1;
-        }
-    }
-    count
+    bytes.iter().filter(|byte| !is_within(**byte)).count()
 }
 
 // Where the last line begins.

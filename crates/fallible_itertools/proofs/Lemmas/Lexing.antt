@@ -1,4 +1,4 @@
--- What a search and a run of items make of a list of tokens, and the draws of a token.
+-- The first token of a list and what one answer leaves of it, and the draws that take them.
 use Rattle.std.specs.Prelude.{◌≡◌, ℕ, ◌+◌, Bool, true, false, not, Option, Some, None, Ok, Err, Result, List, [], ◌∷◌}
 use Rattle.std.proofs.Common.{arith, refl, sym, ap, subst, ◌∙◌}
 use Rattle.fallible_iterator.specs.Traces.{Answered, end, item}
