@@ -216,12 +216,12 @@ module _ {R W : Type 0} (left : R → Option (List ℕ)) (fails : ErrorKind → 
     fault_comes fault told new most fills ends = comes_of_fault h.so_far fault told buffer new held most fills ends
 
     -- too many bytes were read
-    pub many_comes : (told : RunFault TextFault) → q ≡ p → 2 ^ 61 ≤ read → EndsFault prints written' written'' (failed w) t run.Read told → Comes (Err told)
-    many_comes told same many (inl ends) =
+    pub too_many_comes : (told : RunFault TextFault) → q ≡ p → 2 ^ 61 ≤ read → EndsFault prints written' written'' (failed w) t run.Read told → Comes (Err told)
+    too_many_comes told same many (inl ends) =
         let k = read_kept h.so_far (left q) (subst (λ x. Keeps (left p) (left x)) (sym same) (Keeps-refl (left p))) in
         let long = k.long in
         subst (λ x. Comes (Err x)) (sym ends.0) (inr (k.so_far.done ++ (h.front ++ h.rest), k.so_far.taken, omega (arith, long, many)), writes_read k.so_far k.valid written'' ends.1)
-    many_comes told same many (inr ends) =
+    too_many_comes told same many (inr ends) =
         let k = read_kept h.so_far (left q) (subst (λ x. Keeps (left p) (left x)) (sym same) (Keeps-refl (left p))) in
         subst (λ x. Comes (Err x)) (sym ends.0) ((k.so_far.done ++ (h.front ++ h.rest), k.so_far.taken), ends.1)
 
@@ -235,15 +235,15 @@ module _ {R W : Type 0} (left : R → Option (List ℕ)) (fails : ErrorKind → 
       filled_is : take (held + count) now ≡ h.front ++ (h.rest ++ take count (drop held new))
       filled_is = ap (take (held + count)) is ∙ take-add held count new ∙ ap (λ l. l ++ take count (drop held new)) (fills.0 ∙ h.are) ∙ append_assoc h.front h.rest (take count (drop held new))
 
-      printed_part : (v : Texts) (outcome : Result (ℕ × ℕ) (RunFault TextFault)) → PrintsPart prints written' written'' (failed w) refused t (take (held + count) now) checked v outcome → PrintsPart prints written' written'' (failed w) refused t (h.front ++ (h.rest ++ take count (drop held new))) (length h.front) v outcome
-      printed_part v outcome x = subst (λ l. PrintsPart prints written' written'' (failed w) refused t l (length h.front) v outcome) filled_is (subst (λ (n : ℕ). PrintsPart prints written' written'' (failed w) refused t (take (held + count) now) n v outcome) (sym h.checked_are) x)
+      prints_part_of_front_and_rest : (v : Texts) (outcome : Result (ℕ × ℕ) (RunFault TextFault)) → PrintsPart prints written' written'' (failed w) refused t (take (held + count) now) checked v outcome → PrintsPart prints written' written'' (failed w) refused t (h.front ++ (h.rest ++ take count (drop held new))) (length h.front) v outcome
+      prints_part_of_front_and_rest v outcome x = subst (λ l. PrintsPart prints written' written'' (failed w) refused t l (length h.front) v outcome) filled_is (subst (λ (n : ℕ). PrintsPart prints written' written'' (failed w) refused t (take (held + count) now) n v outcome) (sym h.checked_are) x)
 
       pub part_comes : (v : Texts) (told : RunFault TextFault) → PrintsPart prints written' written'' (failed w) refused t (take (held + count) now) checked v (Err told) → Comes (Err told)
-      part_comes v told x = comes_of_part h.so_far (take count (drop held new)) fills.3 told (printed_part v (Err told) x)
+      part_comes v told x = comes_of_part h.so_far (take count (drop held new)) fills.3 told (prints_part_of_front_and_rest v (Err told) x)
 
       pub turn : (v : Texts) (taken valid : ℕ) (buffer' : List ℕ) → PrintsPart prints written' written'' (failed w) refused t (take (held + count) now) checked v (Ok (taken, valid)) → length buffer' ≡ length new → take (held + count - taken) buffer' ≡ take (held + count - taken) (drop taken new) → Holds prints (left r) (left q) written written'' v buffer' (held + count - taken) (valid - taken) (read + count)
       turn v taken valid buffer' x long kept =
-          let x' = printed_part v (Ok (taken, valid)) x in
+          let x' = prints_part_of_front_and_rest v (Ok (taken, valid)) x in
           let k = took h.so_far (take count (drop held new)) fills.3 v taken valid x' in
           let room = fills.1 in
           let part = x.1.1 in

@@ -9,7 +9,7 @@ use Rattle.fallible_json.specs.Grammar.{State, after_token, begin, is_whole}
 use Rattle.fallible_json.specs.Lexing.{Begun, Lexeme, Placed, begun_at, begun_with, closed, lexed, token_rules}
 use Rattle.fallible_json.specs.Minifying.{bytes_of}
 use Rattle.fallible_json.specs.Taking.{◌before◌}
-use Rattle.fallible_json.specs.Texts.{Ending, complete, cut, Text, Tokens, at_ending, ends_text, faulty, is_begin, texts_after, texts_from, tokens_by, where_ends, where_stands}
+use Rattle.fallible_json.specs.Texts.{Ending, complete, cut, TextResult, Tokens, at_ending, ends_text, faulty, is_begin, texts_after, texts_from, tokens_by, where_ends, where_stands}
 use Rattle.fallible_json.specs.Tokens.{is_blank}
 use Rattle.fallible_json.specs.Wanted.{wanted_of}
 use Rattle.fallible_json.specs.declared.lexer.LexFault.{LexFault}
@@ -61,11 +61,11 @@ few_by : (ending : Ending) (text : List ℕ) (l : Tokens) → length (tokens_by 
 few_by complete text l = omega arith
 few_by cut text l = few_kept text l
 
-few_stands : (o : Option State) (misplaced : List Text) (tail : State → List Text) (n : ℕ) → length misplaced ≤ n → ((s : State) → length (tail s) ≤ n) → length (where_stands o misplaced tail) ≤ n
+few_stands : (o : Option State) (misplaced : List TextResult) (tail : State → List TextResult) (n : ℕ) → length misplaced ≤ n → ((s : State) → length (tail s) ≤ n) → length (where_stands o misplaced tail) ≤ n
 few_stands None misplaced tail n p q = p
 few_stands (Some s) misplaced tail n p q = q s
 
-few_ends : (c : Bool) (b : State × List ℕ) (tail : State × List ℕ → List Text) (n : ℕ) → ((b : State × List ℕ) → length (tail b) ≤ n) → length (where_ends c b tail) ≤ n + 1
+few_ends : (c : Bool) (b : State × List ℕ) (tail : State × List ℕ → List TextResult) (n : ℕ) → ((b : State × List ℕ) → length (tail b) ≤ n) → length (where_ends c b tail) ≤ n + 1
 few_ends true b tail n q = let h = q (begin, []) in omega (arith, h)
 few_ends false b tail n q = let h = q b in omega (arith, h)
 
@@ -92,12 +92,12 @@ module _ (origin : ℕ × ℕ) (text : List ℕ) where
       let long = length_placed 0 text in
       omega (arith, some, texts, kept, long)
 
-length_before : (texts : List (List ℕ)) (others : List Text) → length (texts before others) ≡ length texts + length others
+length_before : (texts : List (List ℕ)) (others : List TextResult) → length (texts before others) ≡ length texts + length others
 length_before [] others = omega arith
 length_before (x ∷ texts) others = let h = length_before texts others in omega (arith, h)
 
 -- texts that bytes have
-pub few_before : (origin : ℕ × ℕ) (text : List ℕ) (ending : Ending) (b : State × List ℕ) (texts : List (List ℕ)) (others : List Text) → texts_after ending origin b text ≡ texts before others → length texts ≤ length text + 1
+pub few_before : (origin : ℕ × ℕ) (text : List ℕ) (ending : Ending) (b : State × List ℕ) (texts : List (List ℕ)) (others : List TextResult) → texts_after ending origin b text ≡ texts before others → length texts ≤ length text + 1
 few_before origin text ending b texts others is =
     let few = few_texts_after origin text ending b in
     let long = length_before texts others in

@@ -6,7 +6,7 @@ use Rattle.fallible_json.specs.Grammar.{State, after_token, begin, expected_firs
 use Rattle.fallible_json.specs.Lexing.{lexed}
 use Rattle.fallible_json.specs.Minifying.{bytes_of}
 use Rattle.fallible_json.specs.Taking.{◌before◌}
-use Rattle.fallible_json.specs.Texts.{Ending, complete, cut, Text, Tokens, at_ending, ends_text, is_begin, lines_of, texts_after, texts_from, tokens_by, where_ends, where_stands}
+use Rattle.fallible_json.specs.Texts.{Ending, complete, cut, TextResult, Tokens, at_ending, ends_text, is_begin, lines_of, texts_after, texts_from, tokens_by, where_ends, where_stands}
 use Rattle.fallible_json.specs.declared.fault.JsonFault.{JsonFault}
 use Rattle.fallible_json.specs.declared.grammar.Container.{Container}
 use Rattle.fallible_json.specs.declared.grammar.Container.TheVariants.{Array, Object}
@@ -19,7 +19,7 @@ use Rattle.fallible_json.specs.declared.token.Token.TheVariants.{BeginArray, End
 use Rattle.fallible_json.specs.declared.token.Token.TheVariants as token
 
 -- texts, with bytes in front of the first
-abbrev pub fronted : List ℕ → List Text → List Text
+abbrev pub fronted : List ℕ → List TextResult → List TextResult
 fronted sent [] = []
 fronted sent (Ok json ∷ l) = Ok (sent ++ json) ∷ l
 fronted sent (Err (json, fault) ∷ l) = Err (sent ++ json, fault) ∷ l
@@ -34,21 +34,21 @@ abbrev pub left_of : List ℕ → List (List ℕ) → List ℕ
 left_of sent [] = sent
 left_of sent (json ∷ l) = []
 
-pub fronted_nil : (l : List Text) → fronted [] l ≡ l
+pub fronted_nil : (l : List TextResult) → fronted [] l ≡ l
 fronted_nil [] = refl
 fronted_nil (Ok json ∷ l) = refl
 fronted_nil (Err (json, fault) ∷ l) = refl
 
-pub fronted_twice : (a b : List ℕ) (l : List Text) → fronted a (fronted b l) ≡ fronted (a ++ b) l
+pub fronted_twice : (a b : List ℕ) (l : List TextResult) → fronted a (fronted b l) ≡ fronted (a ++ b) l
 fronted_twice a b [] = refl
 fronted_twice a b (Ok json ∷ l) = ap (λ x. Ok x ∷ l) (sym (append_assoc a b json))
 fronted_twice a b (Err (json, fault) ∷ l) = ap (λ x. Err (x, fault) ∷ l) (sym (append_assoc a b json))
 
-pub fronted_before : (sent : List ℕ) (texts : List (List ℕ)) (l : List Text) → fronted sent (texts before l) ≡ fronted_texts sent texts before fronted (left_of sent texts) l
+pub fronted_before : (sent : List ℕ) (texts : List (List ℕ)) (l : List TextResult) → fronted sent (texts before l) ≡ fronted_texts sent texts before fronted (left_of sent texts) l
 fronted_before sent [] l = refl
 fronted_before sent (json ∷ texts) l = ap (λ x. Ok (sent ++ json) ∷ (texts before x)) (sym (fronted_nil l))
 
-pub before_twice : (a b : List (List ℕ)) (l : List Text) → a before (b before l) ≡ (a ++ b) before l
+pub before_twice : (a b : List (List ℕ)) (l : List TextResult) → a before (b before l) ≡ (a ++ b) before l
 before_twice [] b l = refl
 before_twice (x ∷ a) b l = ap (λ y. Ok x ∷ y) (before_twice a b l)
 
@@ -67,11 +67,11 @@ fronted_if true d sent json fault = refl
 fronted_if false true sent json fault = refl
 fronted_if false false sent json fault = refl
 
-fronted_stands : (o : Option State) (sent : List ℕ) (a b : List Text) (f g : State → List Text) → a ≡ fronted sent b → ((s : State) → f s ≡ fronted sent (g s)) → where_stands o a f ≡ fronted sent (where_stands o b g)
+fronted_stands : (o : Option State) (sent : List ℕ) (a b : List TextResult) (f g : State → List TextResult) → a ≡ fronted sent b → ((s : State) → f s ≡ fronted sent (g s)) → where_stands o a f ≡ fronted sent (where_stands o b g)
 fronted_stands None sent a b f g p q = p
 fronted_stands (Some s) sent a b f g p q = q s
 
-fronted_ends : (c : Bool) (s : State) (sent json more : List ℕ) (tail : State × List ℕ → List Text) → tail (s, sent ++ (json ++ more)) ≡ fronted sent (tail (s, json ++ more)) → where_ends c (s, (sent ++ json) ++ more) tail ≡ fronted sent (where_ends c (s, json ++ more) tail)
+fronted_ends : (c : Bool) (s : State) (sent json more : List ℕ) (tail : State × List ℕ → List TextResult) → tail (s, sent ++ (json ++ more)) ≡ fronted sent (tail (s, json ++ more)) → where_ends c (s, (sent ++ json) ++ more) tail ≡ fronted sent (where_ends c (s, json ++ more) tail)
 fronted_ends true s sent json more tail h = ap (λ x. Ok x ∷ tail (begin, [])) (append_assoc sent json more)
 fronted_ends false s sent json more tail h = ap (λ x. tail (s, x)) (append_assoc sent json more) ∙ h
 
@@ -137,16 +137,16 @@ in_begins_not (c ∷ containers) expects h = refl
 in_begins_not [] expects (inl some) = absurd (omega arith)
 in_begins_not [] expects (inr after) = subst (λ e. is_begin ([], e) ≡ false) (sym after) refl
 
-some_at_end : (c d : Bool) (json : List ℕ) (x : Text) → c ≡ false → (if c then [] else if d then Ok json ∷ [] else x ∷ []) ≢ []
+some_at_end : (c d : Bool) (json : List ℕ) (x : TextResult) → c ≡ false → (if c then [] else if d then Ok json ∷ [] else x ∷ []) ≢ []
 some_at_end true d json x h e = absurd cc
 some_at_end false true json x h e = absurd cc
 some_at_end false false json x h e = absurd cc
 
-some_stands : (o : Option State) (x : Text) (tail : State → List Text) → ((s : State) → o ≡ Some s → tail s ≢ []) → where_stands o (x ∷ []) tail ≢ []
+some_stands : (o : Option State) (x : TextResult) (tail : State → List TextResult) → ((s : State) → o ≡ Some s → tail s ≢ []) → where_stands o (x ∷ []) tail ≢ []
 some_stands None x tail q e = absurd cc
 some_stands (Some s) x tail q e = q s refl e
 
-some_ends : (c : Bool) (s : State) (json : List ℕ) (tail : State × List ℕ → List Text) → tail (s, json) ≢ [] → where_ends c (s, json) tail ≢ []
+some_ends : (c : Bool) (s : State) (json : List ℕ) (tail : State × List ℕ → List TextResult) → tail (s, json) ≢ [] → where_ends c (s, json) tail ≢ []
 some_ends true s json tail q e = absurd cc
 some_ends false s json tail q e = q e
 

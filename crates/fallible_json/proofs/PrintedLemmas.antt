@@ -7,7 +7,7 @@ use Rattle.std.proofs.Math.Seq.{drop-append_seam, take-append_seam}
 use Rattle.fallible_json.specs.Grammar.{State, after_token, after_tokens}
 use Rattle.fallible_json.specs.Lexing.{Lexeme}
 use Rattle.fallible_json.specs.Minifying.{bytes_of, bytes_of_all}
-use Rattle.fallible_json.specs.Spelled.{IsLongest, SpellEach, spelled}
+use Rattle.fallible_json.specs.Spelled.{IsLongest, SpellEach, tokens_with_bytes}
 use Rattle.fallible_json.specs.Spelling.{IsBlank, IsSpelled, Times}
 use Rattle.fallible_json.specs.Tokens.{after, token_of}
 use Rattle.fallible_json.specs.Trees.{tokens_of}
@@ -263,20 +263,20 @@ bytes_of_token place first last token before bytes blanks spelling rest here is 
 pub next_place : (place first last : ℕ) (before blanks spelling : List ℕ) → length before ≡ place → first ≡ place + length blanks → last + 1 ≡ first + length spelling → length ((before ++ blanks) ++ spelling) ≡ last + 1
 next_place place first last before blanks spelling here at_first at_last = omega (arith, length-append (before ++ blanks) spelling, length-append before blanks, here, at_first, at_last)
 
-pub each_spelled : (lexemes : List Lexeme) (place : ℕ) (before bytes : List ℕ) → length before ≡ place → Spells place bytes lexemes → EachSpelled (spelled (before ++ bytes) lexemes)
+pub each_spelled : (lexemes : List Lexeme) (place : ℕ) (before bytes : List ℕ) → length before ≡ place → Spells place bytes lexemes → EachSpelled (tokens_with_bytes (before ++ bytes) lexemes)
 unfolding SpellEach
 each_spelled [] place before bytes here each = tt
 each_spelled ((first, last, token) ∷ lexemes) place before bytes here (blanks, spelling, rest, is, each, at_first, is_spelled, at_last, any, others) = (
   subst (IsSpelled token) (sym (bytes_of_token place first last token before bytes blanks spelling rest here is at_first at_last (reads_token token spelling is_spelled))) is_spelled,
-  subst (λ z. EachSpelled (spelled z lexemes)) (sym (splits_at before bytes blanks spelling rest is).1) (each_spelled lexemes (last + 1) ((before ++ blanks) ++ spelling) rest (next_place place first last before blanks spelling here at_first at_last) others),
+  subst (λ z. EachSpelled (tokens_with_bytes z lexemes)) (sym (splits_at before bytes blanks spelling rest is).1) (each_spelled lexemes (last + 1) ((before ++ blanks) ++ spelling) rest (next_place place first last before blanks spelling here at_first at_last) others),
 )
 
-pub joined_spelled : (text : List ℕ) (lexemes : List Lexeme) → joined (spelled text lexemes) ≡ bytes_of_all text lexemes
+pub joined_spelled : (text : List ℕ) (lexemes : List Lexeme) → joined (tokens_with_bytes text lexemes) ≡ bytes_of_all text lexemes
 unfolding bytes_of_all
 joined_spelled text [] = refl
 joined_spelled text ((first, last, token) ∷ lexemes) = ap (λ z. bytes_of text first last ++ z) (joined_spelled text lexemes)
 
-pub tokens_spelled : (text : List ℕ) (lexemes : List Lexeme) → map (λ p. p.0) (spelled text lexemes) ≡ tokens_of lexemes
+pub tokens_spelled : (text : List ℕ) (lexemes : List Lexeme) → map (λ p. p.0) (tokens_with_bytes text lexemes) ≡ tokens_of lexemes
 tokens_spelled text [] = refl
 tokens_spelled text ((first, last, token) ∷ lexemes) = ap (λ z. token ∷ z) (tokens_spelled text lexemes)
 
@@ -299,8 +299,8 @@ spelled_first token text place before rest here is_spelled =
     let some = some_bytes token text (reads_token token text is_spelled) in
     bytes_of_part before text rest place (place + length text - 1) (sym here) (placed_end place text some) some
 
-pub spelled_placed : (parts : Parts) (place : ℕ) (before : List ℕ) → length before ≡ place → EachSpelled parts → spelled (before ++ joined parts) (placed place parts) ≡ parts
+pub spelled_placed : (parts : Parts) (place : ℕ) (before : List ℕ) → length before ≡ place → EachSpelled parts → tokens_with_bytes (before ++ joined parts) (placed place parts) ≡ parts
 spelled_placed [] place before here each = refl
 spelled_placed ((token, text) ∷ parts) place before here (is_spelled, each) =
     let others = spelled_placed parts (place + length text) (before ++ text) (omega (arith, length-append before text, here)) each in
-    ap (λ z. (token, z) ∷ spelled (before ++ (text ++ joined parts)) (placed (place + length text) parts)) (spelled_first token text place before (joined parts) here is_spelled) ∙ ap (λ z. (token, text) ∷ z) (ap (λ z. spelled z (placed (place + length text) parts)) (sym (append_assoc before text (joined parts))) ∙ others)
+    ap (λ z. (token, z) ∷ tokens_with_bytes (before ++ (text ++ joined parts)) (placed (place + length text) parts)) (spelled_first token text place before (joined parts) here is_spelled) ∙ ap (λ z. (token, text) ∷ z) (ap (λ z. tokens_with_bytes z (placed (place + length text) parts)) (sym (append_assoc before text (joined parts))) ∙ others)

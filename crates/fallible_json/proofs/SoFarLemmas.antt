@@ -18,7 +18,7 @@ use Rattle.fallible_json.specs.Json.{not_text_at}
 use Rattle.fallible_json.specs.Places.{place_after_bytes}
 use Rattle.fallible_json.specs.Report.{HasTexts, WritesRead, WritesSome}
 use Rattle.fallible_json.specs.Taking.{CountsUpTo, EndTexts, FindsFault, FindsLastFault, Takes, TakesAll, begun_of, ended_of, ◌before◌}
-use Rattle.fallible_json.specs.Texts.{Ending, complete, cut, Text, lines_of, texts_after, texts_from, texts_of, texts_so_far}
+use Rattle.fallible_json.specs.Texts.{Ending, complete, cut, TextResult, lines_of, texts_after, texts_from, texts_of, texts_so_far}
 use Rattle.fallible_json.specs.Writing.{FindsBroken, Sends, last_lines, printed}
 use Rattle.fallible_json.proofs.FrontedLemmas.{before_twice, fronted, fronted_after, fronted_before, fronted_lines, fronted_nil, fronted_texts, fronted_twice, left_of, length_fronted, some_after}
 use Rattle.fallible_json.proofs.Utf8Lemmas.{valid_after, valid_broken, valid_front}
@@ -30,7 +30,7 @@ use Rattle.fallible_json.specs.declared.texts.Texts.{Texts}
 -- ---- the texts of bytes, by how many of these are UTF-8
 
 -- all texts of bytes that are UTF-8, by how they end
-abbrev pub all_texts : Ending → List ℕ → List Text
+abbrev pub all_texts : Ending → List ℕ → List TextResult
 all_texts ending bytes = texts_after ending (1, 1) (begin, []) bytes
 
 texts_of_whole : (bytes : List ℕ) → utf8_valid_len bytes ≡ length bytes → texts_of bytes ≡ all_texts complete bytes
@@ -40,7 +40,7 @@ texts_of_cut : (bytes : List ℕ) (n : ℕ) → utf8_valid_len bytes ≡ n → n
 texts_of_cut bytes n is short = cond-false (utf8_valid_len bytes == length bytes) _ _ (ne_eqb (utf8_valid_len bytes) (length bytes) (omega (arith, is, short))) ∙ ap (λ (k : ℕ). all_texts cut (take k bytes)) is
 
 -- whatever comes after bytes that are UTF-8
-texts_of_starts : (front rest : List ℕ) (texts : List Text) → IsUtf8 front → ((more : List ℕ) (ending : Ending) → all_texts ending (front ++ more) ≡ texts) → texts_of (front ++ rest) ≡ texts
+texts_of_starts : (front rest : List ℕ) (texts : List TextResult) → IsUtf8 front → ((more : List ℕ) (ending : Ending) → all_texts ending (front ++ more) ≡ texts) → texts_of (front ++ rest) ≡ texts
 texts_of_starts front rest texts u is =
     let n = utf8_valid_len rest in
     let valid = valid_after front rest u in
@@ -81,7 +81,7 @@ cancel : (a b c : List ℕ) → a ++ b ≡ a ++ c → b ≡ c
 cancel [] b c is = is
 cancel (x ∷ a) b c is = cancel a b c cc
 
-unfronted : (sent : List ℕ) (l : List Text) (json json' : List ℕ) (f : JsonFault) → fronted sent l ≡ Err (json, f) ∷ [] → json ≡ sent ++ json' → l ≡ Err (json', f) ∷ []
+unfronted : (sent : List ℕ) (l : List TextResult) (json json' : List ℕ) (f : JsonFault) → fronted sent l ≡ Err (json, f) ∷ [] → json ≡ sent ++ json' → l ≡ Err (json', f) ∷ []
 unfronted sent [] json json' f is same = absurd cc
 unfronted sent (Ok x ∷ l) json json' f is same = absurd cc
 unfronted sent (Err (x, g) ∷ l) json json' f is same =
@@ -97,14 +97,14 @@ left_of_nil sent [] h = h
 left_of_nil sent (x ∷ texts) h = refl
 
 -- the bytes that were sent are those of a text that doesn't end as if it were none
-ends_taken : (new : List (List ℕ)) (a b : List ℕ) (F G : List ℕ → List Text) → ((more : List ℕ) → F more ≡ new before fronted b (G more)) → (a ≡ []) ⊎ ((more : List ℕ) → F more ≢ []) → (b ≡ []) ⊎ ((more : List ℕ) → G more ≢ []) → (left_of a new ++ b ≡ []) ⊎ ((more : List ℕ) → G more ≢ [])
+ends_taken : (new : List (List ℕ)) (a b : List ℕ) (F G : List ℕ → List TextResult) → ((more : List ℕ) → F more ≡ new before fronted b (G more)) → (a ≡ []) ⊎ ((more : List ℕ) → F more ≢ []) → (b ≡ []) ⊎ ((more : List ℕ) → G more ≢ []) → (left_of a new ++ b ≡ []) ⊎ ((more : List ℕ) → G more ≢ [])
 ends_taken [] a b F G goes h (inr q) = inr q
 ends_taken (x ∷ new) a b F G goes h (inr q) = inr q
 ends_taken [] a b F G goes (inl p) (inl q) = inl (ap (λ l. l ++ b) p ∙ q)
 ends_taken [] a b F G goes (inr p) (inl q) = inr (λ more is. p more (goes more ∙ ap (fronted b) is))
 ends_taken (x ∷ new) a b F G goes h (inl q) = inl q
 
-left_done : (new : List (List ℕ)) (a : List ℕ) (l : List Text) → l ≡ map (λ text. Ok text) new → (a ≡ []) ⊎ (l ≢ []) → left_of a new ≡ []
+left_done : (new : List (List ℕ)) (a : List ℕ) (l : List TextResult) → l ≡ map (λ text. Ok text) new → (a ≡ []) ⊎ (l ≢ []) → left_of a new ≡ []
 left_done [] a l is (inl p) = p
 left_done [] a l is (inr p) = absurd (p is)
 left_done (x ∷ new) a l is h = refl
@@ -192,7 +192,7 @@ module _ {prints : Prints} {unread unread' written written' : Option (List ℕ)}
   )
 
   -- whatever texts the first bytes go on with
-  goes_on : (v : List ℕ) (ending : Ending) (new : List (List ℕ)) (others : List Text) → texts_after ending t.place (begun_of t) (front ++ v) ≡ new before others → all_texts ending (s.done ++ (front ++ v)) ≡ (s.texts ++ fronted_texts s.sent new) before fronted (left_of s.sent new) others
+  goes_on : (v : List ℕ) (ending : Ending) (new : List (List ℕ)) (others : List TextResult) → texts_after ending t.place (begun_of t) (front ++ v) ≡ new before others → all_texts ending (s.done ++ (front ++ v)) ≡ (s.texts ++ fronted_texts s.sent new) before fronted (left_of s.sent new) others
   goes_on v ending new others is =
       s.goes v ending ∙ ap (λ l. s.texts before fronted s.sent l) is ∙ ap (λ l. s.texts before l) (fronted_before s.sent new others) ∙ before_twice s.texts (fronted_texts s.sent new) (fronted (left_of s.sent new) others)
 
@@ -334,8 +334,8 @@ module _ {prints : Prints} {unread unread' written written' : Option (List ℕ)}
       are = inr (end, texts_of_whole (s.done ++ (front ++ rest)) (whole_of_short short) ∙ goes_on rest complete h.texts _ h.fails);
     }) wrote
 
-    cut_front : utf8_valid_len ((s.done ++ front) ++ rest) ≡ length (s.done ++ front)
-    cut_front = ap utf8_valid_len (append_assoc s.done front rest) ∙ valid
+    utf8_valid_up_to_front : utf8_valid_len ((s.done ++ front) ++ rest) ≡ length (s.done ++ front)
+    utf8_valid_up_to_front = ap utf8_valid_len (append_assoc s.done front rest) ∙ valid
 
     all_cut : all_texts cut (s.done ++ front) ≡ s.texts before Err (s.sent ++ (begun_of t).1, not_text_at (place_after_bytes t.place front)) ∷ []
     all_cut =
@@ -354,7 +354,7 @@ module _ {prints : Prints} {unread unread' written written' : Option (List ℕ)}
       are = inr (
         end,
         ap texts_of (sym (append_assoc s.done front rest))
-            ∙ texts_of_front (s.done ++ front) rest cut_front (let c = length-append front rest in omega (arith, c, some))
+            ∙ texts_of_front (s.done ++ front) rest utf8_valid_up_to_front (let c = length-append front rest in omega (arith, c, some))
             ∙ all_cut
             ∙ ap (λ l. l before Err (s.sent ++ (begun_of t).1, not_text_at (place_after_bytes t.place front)) ∷ []) (sym (append-nil s.texts))
             ∙ ap (λ x. (s.texts ++ []) before Err (s.sent ++ (begun_of t).1, x) ∷ []) (sym is),
@@ -369,7 +369,7 @@ module _ {prints : Prints} {unread unread' written written' : Option (List ℕ)}
       texts = s.texts;
       json = s.sent ++ (begun_of t).1;
       place = place_after_bytes t.place front;
-      are = ap texts_so_far (sym (append_assoc s.done front rest)) ∙ so_far_of_front (s.done ++ front) rest cut_front ∙ all_cut;
+      are = ap texts_so_far (sym (append_assoc s.done front rest)) ∙ so_far_of_front (s.done ++ front) rest utf8_valid_up_to_front ∙ all_cut;
       wrote = subst (Appends written written'') (last_printed prints t (lines_of s.texts ++ s.sent) s.texts s.sent (λ json. ap (λ l. (lines_of s.texts ++ s.sent) ++ (l ++ json)) s.none ∙ append_assoc (lines_of s.texts) s.sent json) s.plain) (Appends-trans written written' written'' (lines_of s.texts ++ s.sent) (last_lines prints t) s.wrote wrote);
     }
 
@@ -383,7 +383,7 @@ module _ {prints : Prints} {unread unread' written written' : Option (List ℕ)}
       sent = s.sent;
       unsent = (begun_of t).1;
       place = place_after_bytes t.place front;
-      are = ap texts_so_far (sym (append_assoc s.done front rest)) ∙ so_far_of_front (s.done ++ front) rest cut_front ∙ all_cut;
+      are = ap texts_so_far (sym (append_assoc s.done front rest)) ∙ so_far_of_front (s.done ++ front) rest utf8_valid_up_to_front ∙ all_cut;
       wrote = subst (Appends written written'') (append-nil (lines_of s.texts ++ s.sent) ∙ sent_printed prints s.texts s.sent s.plain) (Appends-trans written written' written'' (lines_of s.texts ++ s.sent) [] s.wrote wrote);
     }
 

@@ -11,7 +11,7 @@ use Rattle.fallible_json.specs.Grammar.{IsJsonText, begin}
 use Rattle.fallible_json.specs.Json.{IsJson}
 use Rattle.fallible_json.specs.Lexing.{Lexeme, lexed}
 use Rattle.fallible_json.specs.Minifying.{bytes_of, bytes_of_all}
-use Rattle.fallible_json.specs.Spelled.{Spell, SpellEach, SpellLongest, spelled}
+use Rattle.fallible_json.specs.Spelled.{Spell, SpellEach, SpellLongest, tokens_with_bytes}
 use Rattle.fallible_json.specs.Spelling.{IsBlank, Times}
 use Rattle.fallible_json.specs.Trees.{Tree, tokens_of, written}
 use Rattle.fallible_json.proofs.JsonLemmas.{is_json_of_tree, tree_of_json}
@@ -63,14 +63,14 @@ without_blanks (suc n) front blanks rest (one, others, is, blank, more) utf8 =
     without_blanks n front others rest more (without_ascii front (others ++ rest) k.0 (blank_is_ascii k.0 one blank k.1) (subst (λ z. IsUtf8 (front ++ (z ++ rest))) whole utf8))
 
 -- what is joined of the tokens is UTF-8 if all bytes are
-utf8_joined : (lexemes : List Lexeme) (place : ℕ) (front before bytes : List ℕ) → length before ≡ place → Spells place bytes lexemes → IsUtf8 (front ++ bytes) → IsUtf8 (front ++ joined (spelled (before ++ bytes) lexemes))
+utf8_joined : (lexemes : List Lexeme) (place : ℕ) (front before bytes : List ℕ) → length before ≡ place → Spells place bytes lexemes → IsUtf8 (front ++ bytes) → IsUtf8 (front ++ joined (tokens_with_bytes (before ++ bytes) lexemes))
 unfolding SpellEach
 utf8_joined [] place front before bytes here (n, each) utf8 = without_blanks n front bytes [] each (subst (λ z. IsUtf8 (front ++ z)) (sym (append-nil bytes)) utf8)
 utf8_joined ((first, last, token) ∷ lexemes) place front before bytes here (blanks, spelling, rest, is, each, at_first, is_spelled, at_last, any, others) utf8 =
     let lost : IsUtf8 (front ++ (spelling ++ rest)) = without_blanks each.0 front blanks (spelling ++ rest) each.1 (subst (λ z. IsUtf8 (front ++ z)) is utf8) in
     let more = utf8_joined lexemes (last + 1) (front ++ spelling) ((before ++ blanks) ++ spelling) rest (next_place place first last before blanks spelling here at_first at_last) others (subst IsUtf8 (sym (append_assoc front spelling rest)) lost) in
     let same : bytes_of (before ++ bytes) first last ≡ spelling = bytes_of_token place first last token before bytes blanks spelling rest here is at_first at_last (reads_token token spelling is_spelled) in
-    subst (λ z. IsUtf8 (front ++ (z ++ joined (spelled (before ++ bytes) lexemes)))) (sym same) (subst (λ z. IsUtf8 (front ++ (spelling ++ joined (spelled z lexemes)))) (sym (splits_at before bytes blanks spelling rest is).1) (subst IsUtf8 (append_assoc front spelling (joined (spelled (((before ++ blanks) ++ spelling) ++ rest) lexemes))) more))
+    subst (λ z. IsUtf8 (front ++ (z ++ joined (tokens_with_bytes (before ++ bytes) lexemes)))) (sym same) (subst (λ z. IsUtf8 (front ++ (spelling ++ joined (tokens_with_bytes z lexemes)))) (sym (splits_at before bytes blanks spelling rest is).1) (subst IsUtf8 (append_assoc front spelling (joined (spelled (((before ++ blanks) ++ spelling) ++ rest) lexemes))) more))
 
 -- ---- the text without blanks
 
@@ -84,17 +84,17 @@ record Printed (bytes json : List ℕ) : Type 0 where
   spells : Spell json printed
   is : tokens_of printed ≡ written tree
   whole : bytes_of_all json printed ≡ json
-  same : spelled json printed ≡ spelled bytes lexemes
+  same : tokens_with_bytes json printed ≡ tokens_with_bytes bytes lexemes
 
 printed_of : (bytes json : List ℕ) → IsJson bytes json → Printed bytes json
 printed_of bytes json is =
     let k = tree_of_json bytes json is in
     let lexemes = k.2 in
     let spells = spells_of_longest lexemes 0 bytes (spell_of_lexed lexemes 0 bytes k.3) in
-    let parts = spelled bytes lexemes in
+    let parts = tokens_with_bytes bytes lexemes in
     let each = each_spelled lexemes 0 [] bytes refl spells in
     let whole : json ≡ joined parts = k.5 ∙ sym (joined_spelled bytes lexemes) in
-    let same : spelled json (placed 0 parts) ≡ parts = ap (λ z. spelled z (placed 0 parts)) whole ∙ spelled_placed parts 0 [] refl each in
+    let same : tokens_with_bytes json (placed 0 parts) ≡ parts = ap (λ z. tokens_with_bytes z (placed 0 parts)) whole ∙ spelled_placed parts 0 [] refl each in
     record {
       lexemes = lexemes;
       printed = placed 0 parts;
@@ -112,7 +112,7 @@ is_json_again bytes json is =
     let k = printed_of bytes json is in
     subst (IsJson json) k.whole (is_json_of_spelled json k.tree k.printed k.utf8 k.spells k.is)
 
-pub same_tokens : (bytes json : List ℕ) → IsJson bytes json → (lexemes printed : List Lexeme) × (lexed {E = Infallible} (numbered 0 (items bytes)) ≡ items lexemes) × (lexed {E = Infallible} (numbered 0 (items json)) ≡ items printed) × (spelled json printed ≡ spelled bytes lexemes)
+pub same_tokens : (bytes json : List ℕ) → IsJson bytes json → (lexemes printed : List Lexeme) × (lexed {E = Infallible} (numbered 0 (items bytes)) ≡ items lexemes) × (lexed {E = Infallible} (numbered 0 (items json)) ≡ items printed) × (tokens_with_bytes json printed ≡ tokens_with_bytes bytes lexemes)
 same_tokens bytes json is =
     let k = printed_of bytes json is in
     (k.lexemes, k.printed, k.read, lexed_of_spell k.printed 0 json (longest_of_tree json k.tree k.printed k.spells k.is), k.same)

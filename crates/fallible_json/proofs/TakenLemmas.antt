@@ -84,9 +84,9 @@ module _ (t : Texts) (bytes : List ℕ) (x : Lexeme) (v : Texts) (adds : AddsTok
   begun_after rest = ap (λ z. (begun_of t).1 ++ z) (bytes_before bytes rest x.0 x.1 within) ∙ sym adds.json
 
   -- what the texts are from it on
-  from_token : (ends : Bool) (origin : ℕ × ℕ) (rest : List ℕ) (ending : Ending) (l : Tokens) → ends_text (bytes ++ rest) (begun_of v).0 (x.1, x.2) ≡ ends → texts_from origin (bytes ++ rest) ending (begun_of t) (Ok x ∷ l) ≡ where_ends ends (begun_of v) (λ c. texts_from origin (bytes ++ rest) ending c l)
+  texts_from_token : (ends : Bool) (origin : ℕ × ℕ) (rest : List ℕ) (ending : Ending) (l : Tokens) → ends_text (bytes ++ rest) (begun_of v).0 (x.1, x.2) ≡ ends → texts_from origin (bytes ++ rest) ending (begun_of t) (Ok x ∷ l) ≡ where_ends ends (begun_of v) (λ c. texts_from origin (bytes ++ rest) ending c l)
   unfolding texts_from
-  from_token ends origin rest ending l is = rw (adds.state, is, begun_after rest) refl
+  texts_from_token ends origin rest ending l is = rw (adds.state, is, begun_after rest) refl
 
   joins : (rest : List ℕ) (ends : Bool) → ends_text bytes (begun_of v).0 (x.1, x.2) ≡ ends → is_joined (bytes ++ rest) (x.1, x.2) ≡ is_joined bytes (x.1, x.2) → ends_text (bytes ++ rest) (begun_of v).0 (x.1, x.2) ≡ ends
   joins rest ends is same = ap (λ z. is_whole (begun_of v).0 && not z) same ∙ is
@@ -95,7 +95,7 @@ module _ (t : Texts) (bytes : List ℕ) (x : Lexeme) (v : Texts) (adds : AddsTok
   token_goes_on is = record {
     texts = [];
     ended = adds.ended;
-    goes = λ origin rest ending l same. from_token false origin rest ending l (joins rest false is same);
+    goes = λ origin rest ending l same. texts_from_token false origin rest ending l (joins rest false is same);
     place = adds.place;
     once = omega arith;
   }
@@ -104,7 +104,7 @@ module _ (t : Texts) (bytes : List ℕ) (x : Lexeme) (v : Texts) (adds : AddsTok
   token_ends_text u is ends = record {
     texts = (begun_of v).1 ∷ [];
     ended = ended_after t v u ((begun_of v).1 ∷ []) adds.ended ends.ended;
-    goes = λ origin rest ending l same. from_token true origin rest ending l (joins rest true is same) ∙ ap (λ c. Ok (begun_of v).1 ∷ texts_from origin (bytes ++ rest) ending c l) (sym ends.begun);
+    goes = λ origin rest ending l same. texts_from_token true origin rest ending l (joins rest true is same) ∙ ap (λ c. Ok (begun_of v).1 ∷ texts_from origin (bytes ++ rest) ending c l) (sym ends.begun);
     place = ends.place ∙ adds.place;
     once = omega arith;
   }

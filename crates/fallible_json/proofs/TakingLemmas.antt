@@ -10,7 +10,7 @@ use Rattle.fallible_json.specs.Json.{fault_place, not_text_at, wanted_at}
 use Rattle.fallible_json.specs.Lexing.{Lexeme}
 use Rattle.fallible_json.specs.Places.{place_after_bytes}
 use Rattle.fallible_json.specs.Taking.{EndTexts, FindsFault, IsFront, Takes, TakesToken, TakesUpTo, begun_of, ended_of, told_of, tokens_from, ◌before◌}
-use Rattle.fallible_json.specs.Texts.{Ending, Text, Tokens, cut, lines_of, texts_after, texts_from}
+use Rattle.fallible_json.specs.Texts.{Ending, TextResult, Tokens, cut, lines_of, texts_after, texts_from}
 use Rattle.fallible_json.specs.Wanted.{wanted_of}
 use Rattle.fallible_json.specs.declared.lexer.LexFault.{LexFault}
 use Rattle.fallible_json.specs.declared.lexer.LexFault.TheVariants.{Source, Unknown, Unfinished}
@@ -30,7 +30,7 @@ lines_append : (a b : List (List ℕ)) → lines_of (a ++ b) ≡ lines_of a ++ l
 lines_append [] b = refl
 lines_append (text ∷ a) b = ap (λ l. (text ++ 10 ∷ []) ++ l) (lines_append a b) ∙ sym (append_assoc (text ++ 10 ∷ []) (lines_of a) (lines_of b))
 
-pub before_append : (a b : List (List ℕ)) (others : List Text) → (a ++ b) before others ≡ a before (b before others)
+pub before_append : (a b : List (List ℕ)) (others : List TextResult) → (a ++ b) before others ≡ a before (b before others)
 before_append [] b others = refl
 before_append (text ∷ a) b others = ap (λ l. Ok text ∷ l) (before_append a b others)
 

@@ -17,7 +17,7 @@ use Rattle.fallible_json.specs.Lexing.{Lexeme, lexed}
 use Rattle.fallible_json.specs.Minifying.{bytes_of, bytes_of_all, minified_or_wanted, wanting_from}
 use Rattle.fallible_json.specs.Places.{place_after_bytes, place_of}
 use Rattle.fallible_json.specs.Taking.{◌before◌}
-use Rattle.fallible_json.specs.Texts.{Ending, complete, cut, Text, Tokens, at_end, ends_text, is_begin, texts_after, texts_from, texts_of, tokens_by}
+use Rattle.fallible_json.specs.Texts.{Ending, complete, cut, TextResult, Tokens, at_end, ends_text, is_begin, texts_after, texts_from, texts_of, tokens_by}
 use Rattle.fallible_json.specs.Trees.{BeginsTree, Tree, tokens_of, written, text, number, literal, array, object, written_values, written_members}
 use Rattle.fallible_json.specs.Wanted.{wanted_of}
 use Rattle.fallible_json.specs.WrittenTexts.{BeginWithPart, BeginWithTexts}
@@ -133,7 +133,7 @@ abbrev FaultOf : List ℕ → Ending → Tokens → JsonFault → Type 0
 FaultOf bytes ending others fault = (told bytes (minified_or_wanted bytes others) ≡ Err fault) ⊎ ((ending ≡ cut) × (fault ≡ not_text_at (place_after_bytes (1, 1) bytes)))
 
 -- a fault after the texts: of what is begun, and of the tokens that are left
-record Left (bytes : List ℕ) (ending : Ending) (others : Tokens) (last : List Text) : Type 0 where
+record Left (bytes : List ℕ) (ending : Ending) (others : Tokens) (last : List TextResult) : Type 0 where
   begun : List Lexeme
   rest : Tokens
   fault : JsonFault
@@ -143,21 +143,21 @@ record Left (bytes : List ℕ) (ending : Ending) (others : Tokens) (last : List 
   by : FaultOf bytes ending others fault
 
 -- no tokens are left, or a fault
-abbrev IsLast : List ℕ → Ending → Tokens → List Text → Type 0
+abbrev IsLast : List ℕ → Ending → Tokens → List TextResult → Type 0
 IsLast bytes ending others last = ((ending ≡ complete) × (others ≡ []) × (last ≡ [])) ⊎ Left bytes ending others last
 
 -- the texts of tokens, after which others come
-record Runs (bytes : List ℕ) (ending : Ending) (l : Tokens) (out : List Text) : Type 0 where
+record Runs (bytes : List ℕ) (ending : Ending) (l : Tokens) (out : List TextResult) : Type 0 where
   texts : List (List ℕ)
   others : Tokens
-  last : List Text
+  last : List TextResult
   begin_with : BeginWithTexts bytes texts l others
   is : out ≡ texts before last
   by : IsLast bytes ending others last
 
 module _ (bytes : List ℕ) (ending : Ending) where
   -- the texts of tokens after those that are begun
-  abbrev From : List Lexeme → State → Tokens → List Text
+  abbrev From : List Lexeme → State → Tokens → List TextResult
   From begun state l = texts_from (1, 1) bytes ending (state, bytes_of_all bytes begun) l
 
   -- what tokens come to, whatever is begun before them
@@ -167,7 +167,7 @@ module _ (bytes : List ℕ) (ending : Ending) where
   told_through : (begun : List Lexeme) (state : State) (l : Tokens) → after_tokens begin (tokens_of begun) ≡ Some state → told bytes (minified_or_wanted bytes (items begun ++ l)) ≡ told bytes (wanting_from bytes (state, bytes_of_all bytes begun) l)
   told_through begun state l alive = ap (told bytes) (wanting_through bytes l begun begin state [] alive)
 
-  runs_left : (begun : List Lexeme) (state : State) (l : Tokens) (fault : JsonFault) (out : List Text) → after_tokens begin (tokens_of begun) ≡ Some state → FaultOf bytes ending (items begun ++ l) fault → out ≡ Err (bytes_of_all bytes begun, fault) ∷ [] → Runs bytes ending (items begun ++ l) out
+  runs_left : (begun : List Lexeme) (state : State) (l : Tokens) (fault : JsonFault) (out : List TextResult) → after_tokens begin (tokens_of begun) ≡ Some state → FaultOf bytes ending (items begun ++ l) fault → out ≡ Err (bytes_of_all bytes begun, fault) ∷ [] → Runs bytes ending (items begun ++ l) out
   unfolding BeginWithTexts
   runs_left begun state l fault out alive by is = record {
     texts = [];
@@ -179,7 +179,7 @@ module _ (bytes : List ℕ) (ending : Ending) where
   }
 
   -- a text, and those after it
-  runs_on : (begun : List Lexeme) (state : State) (l : Tokens) (out : List Text) → after_tokens begin (tokens_of begun) ≡ Some state → is_whole state ≡ true → Runs bytes ending l out → Runs bytes ending (items begun ++ l) (Ok (bytes_of_all bytes begun) ∷ out)
+  runs_on : (begun : List Lexeme) (state : State) (l : Tokens) (out : List TextResult) → after_tokens begin (tokens_of begun) ≡ Some state → is_whole state ≡ true → Runs bytes ending l out → Runs bytes ending (items begun ++ l) (Ok (bytes_of_all bytes begun) ∷ out)
   unfolding BeginWithTexts
   runs_on begun state l out alive whole k =
       let tree = text_is_written (tokens_of begun) (ap (option_map is_whole) alive ∙ ap (λ w. Some w) whole) in
@@ -257,12 +257,12 @@ module _ (bytes : List ℕ) (ending : Ending) where
 
 -- ---- the texts of an input
 
-abbrev NoText : List Text → Type 0
+abbrev NoText : List TextResult → Type 0
 NoText [] = ⊤
 NoText (Ok json ∷ l) = ⊥
 NoText (Err e ∷ l) = ⊤
 
-same_texts : (a b : List (List ℕ)) (l m : List Text) → NoText l → NoText m → a before l ≡ b before m → (a ≡ b) × (l ≡ m)
+same_texts : (a b : List (List ℕ)) (l m : List TextResult) → NoText l → NoText m → a before l ≡ b before m → (a ≡ b) × (l ≡ m)
 same_texts [] [] l m first other same = (refl, same)
 same_texts [] (y ∷ b) l m first other same = absurd (subst NoText same first)
 same_texts (x ∷ a) [] l m first other same = absurd (subst NoText (sym same) other)
@@ -272,18 +272,18 @@ same_texts (x ∷ a) (y ∷ b) l m first other same =
     let k = same_texts a b l m first other tail in
     (ap (λ z. z ∷ a) head ∙ ap (λ z. y ∷ z) k.0, k.1)
 
-last_no_text : (bytes : List ℕ) (ending : Ending) (others : Tokens) (last : List Text) → IsLast bytes ending others last → NoText last
+last_no_text : (bytes : List ℕ) (ending : Ending) (others : Tokens) (last : List TextResult) → IsLast bytes ending others last → NoText last
 last_no_text bytes ending others last (inl (_, _, is)) = subst NoText (sym is) tt
 last_no_text bytes ending others last (inr k) = subst NoText (sym k.is) tt
 
-none_others : (bytes : List ℕ) (ending : Ending) (others : Tokens) (last : List Text) → IsLast bytes ending others last → last ≡ [] → (ending ≡ complete) × (others ≡ [])
+none_others : (bytes : List ℕ) (ending : Ending) (others : Tokens) (last : List TextResult) → IsLast bytes ending others last → last ≡ [] → (ending ≡ complete) × (others ≡ [])
 none_others bytes ending others last (inl (ends, none, _)) is = (ends, none)
 none_others bytes ending others last (inr k) is = let e = k.is in absurd cc
 
-left_of : (bytes json : List ℕ) (fault : JsonFault) (ending : Ending) (others : Tokens) (last : List Text) → IsLast bytes ending others last → last ≡ Err (json, fault) ∷ [] → BeginWithPart bytes json others × FaultOf bytes ending others fault
+left_of : (bytes json : List ℕ) (fault : JsonFault) (ending : Ending) (others : Tokens) (last : List TextResult) → IsLast bytes ending others last → last ≡ Err (json, fault) ∷ [] → BeginWithPart bytes json others × FaultOf bytes ending others fault
 left_of bytes json fault ending others last (inl (_, _, none)) is = absurd cc
 left_of bytes json fault ending others last (inr k) is =
-    let both : ◌≡◌ {A = List Text} (Err (bytes_of_all bytes k.begun, k.fault) ∷ []) (Err (json, fault) ∷ []) = sym k.is ∙ is in
+    let both : ◌≡◌ {A = List TextResult} (Err (bytes_of_all bytes k.begun, k.fault) ∷ []) (Err (json, fault) ∷ []) = sym k.is ∙ is in
     let same : ◌≡◌ {A = List ℕ × JsonFault} (bytes_of_all bytes k.begun, k.fault) (json, fault) = cc in
     ((k.begun, k.rest, k.are, k.begins, sym (ap (λ p. p.0) same)), subst (FaultOf bytes ending others) (ap (λ p. p.1) same) k.by)
 

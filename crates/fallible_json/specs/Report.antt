@@ -8,13 +8,13 @@ use Rattle.program_io.specs.declared.fault.RunFault.{RunFault}
 use Rattle.program_io.specs.declared.fault.RunFault.TheVariants.{Input, Read, Memory, Write}
 use Rattle.fallible_json.specs.Json.{not_text_at}
 use Rattle.fallible_json.specs.Taking.{◌before◌}
-use Rattle.fallible_json.specs.Texts.{Text, lines_of, texts_of, texts_so_far}
+use Rattle.fallible_json.specs.Texts.{TextResult, lines_of, texts_of, texts_so_far}
 use Rattle.fallible_json.specs.Writing.{printed}
 use Rattle.fallible_json.specs.declared.fault.TextFault.{TextFault}
 use Rattle.fallible_json.specs.declared.report.Prints.{Prints}
 
 -- A reader's first bytes were read, and decide which texts its input has: whatever comes after them, or since nothing does, they are these.
-pub record HasTexts (unread unread' : Option (List ℕ)) (texts : List Text) : Type 0 where
+pub record HasTexts (unread unread' : Option (List ℕ)) (texts : List TextResult) : Type 0 where
   pub bytes : List ℕ
   pub taken : Consumes unread unread' bytes
   pub are : ((more : List ℕ) → texts_of (bytes ++ more) ≡ texts) ⊎ (IsAtEnd unread' × (texts_of bytes ≡ texts))

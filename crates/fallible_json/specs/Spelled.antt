@@ -24,5 +24,5 @@ abbrev pub SpellLongest : List ℕ → List Lexeme → Type 0
 SpellLongest bytes lexemes = SpellEach IsLongest 0 bytes lexemes
 
 -- tokens of a text, each with its bytes
-abbrev pub spelled : List ℕ → List Lexeme → List (Token × List ℕ)
-spelled text lexemes = map (λ x. (x.2, bytes_of text x.0 x.1)) lexemes
+abbrev pub tokens_with_bytes : List ℕ → List Lexeme → List (Token × List ℕ)
+tokens_with_bytes text lexemes = map (λ x. (x.2, bytes_of text x.0 x.1)) lexemes

@@ -8,7 +8,7 @@ use Rattle.fallible_json.specs.Json.{fault_place, not_text_at, wanted_at}
 use Rattle.fallible_json.specs.Lexing.{Lexeme, lexed}
 use Rattle.fallible_json.specs.Minifying.{bytes_of}
 use Rattle.fallible_json.specs.Places.{place_after_bytes}
-use Rattle.fallible_json.specs.Texts.{Ending, at_end, cut, complete, Text, Tokens, is_joined, lines_of, texts_after, texts_from, tokens_by}
+use Rattle.fallible_json.specs.Texts.{Ending, at_end, cut, complete, TextResult, Tokens, is_joined, lines_of, texts_after, texts_from, tokens_by}
 use Rattle.fallible_json.specs.Wanted.{wanted_of}
 use Rattle.fallible_json.specs.declared.fault.JsonFault.{JsonFault}
 use Rattle.fallible_json.specs.declared.lexer.LexFault.{LexFault}
@@ -42,7 +42,7 @@ pub record EndTexts (t : Texts) (texts : List (List ℕ)) (u : Texts) : Type 0 w
 
 -- these texts, and then others
 infixr 20 ◌before◌
-abbrev pub ◌before◌ : List (List ℕ) → List Text → List Text
+abbrev pub ◌before◌ : List (List ℕ) → List TextResult → List TextResult
 texts before others = map (λ text. Ok text) texts ++ others
 
 -- The text that was begun ended.

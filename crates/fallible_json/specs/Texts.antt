@@ -26,8 +26,8 @@ pub data Ending : Type 0 where
   cut : Ending
 
 -- a text without blanks; or of a text that has a fault the bytes of the tokens before that, and the fault
-abbrev pub Text : Type 0
-Text = Result (List ℕ) (List ℕ × JsonFault)
+abbrev pub TextResult : Type 0
+TextResult = Result (List ℕ) (List ℕ × JsonFault)
 
 -- the tokens of bytes, and the faults of those that break off
 abbrev pub Tokens : Type 0
@@ -62,45 +62,45 @@ tokens_by cut text l = filter (λ x. not (is_open text x)) l
 -- ---- the texts of tokens
 
 -- by whether a text ends: it and those after it, or what goes on
-abbrev pub where_ends : Bool → State × List ℕ → (State × List ℕ → List Text) → List Text
+abbrev pub where_ends : Bool → State × List ℕ → (State × List ℕ → List TextResult) → List TextResult
 where_ends true (state, json) tail = Ok json ∷ tail (begin, [])
 where_ends false (state, json) tail = tail (state, json)
 
 -- by what a token makes of the state: where it may not stand, and where it may
-abbrev pub where_stands : Option State → List Text → (State → List Text) → List Text
+abbrev pub where_stands : Option State → List TextResult → (State → List TextResult) → List TextResult
 where_stands None misplaced tail = misplaced
 where_stands (Some state) misplaced tail = tail state
 
 module _ (origin : ℕ × ℕ) (text : List ℕ) where
   -- a text that has a fault at a place, and what could come there
-  abbrev pub faulty : State × List ℕ → ℕ → Wanted → List Text
+  abbrev pub faulty : State × List ℕ → ℕ → Wanted → List TextResult
   faulty (state, json) place wanted = Err (json, fault_from origin text place wanted) ∷ []
 
   -- at the end: nothing if no text is begun, a text if it is whole, or its fault
-  abbrev pub at_end : State × List ℕ → List Text
+  abbrev pub at_end : State × List ℕ → List TextResult
   at_end (state, json) = if is_begin state then [] else if is_whole state then Ok json ∷ [] else faulty (state, json) (length text) (wanted_of state)
 
   -- where no more tokens come, by how the bytes end
-  abbrev pub at_ending : Ending → State × List ℕ → List Text
+  abbrev pub at_ending : Ending → State × List ℕ → List TextResult
   at_ending complete b = at_end b
   at_ending cut (state, json) = Err (json, not_text_at (place_after_bytes origin text)) ∷ []
 
   -- The texts of tokens after those of one that is begun, each without blanks, up to the first fault: of a token that breaks off, or of one that may not stand where it stands.
-  unfoldable pub texts_from : Ending → State × List ℕ → Tokens → List Text
+  unfoldable pub texts_from : Ending → State × List ℕ → Tokens → List TextResult
   texts_from ending b [] = at_ending ending b
   texts_from ending b (Err e ∷ l) = faulty b (fault_place text (misplaced.Source e)) (wanted_at (misplaced.Source e) (wanted_of b.0))
   texts_from ending b (Ok x ∷ l) = where_stands (after_token b.0 x.2) (faulty b x.0 (wanted_of b.0)) (λ next. where_ends (ends_text text next (x.1, x.2)) (next, b.1 ++ bytes_of text x.0 x.1) (λ c. texts_from ending c l))
 
 -- the texts of bytes of which the first has this line and column, after the tokens of one that is begun
-abbrev pub texts_after : Ending → ℕ × ℕ → State × List ℕ → List ℕ → List Text
+abbrev pub texts_after : Ending → ℕ × ℕ → State × List ℕ → List ℕ → List TextResult
 texts_after ending origin b text = texts_from origin text ending b (tokens_by ending text (lexed (numbered 0 (items text))))
 
 -- The texts of an input, each without blanks, up to the first fault; where a byte is no UTF-8, that is one.
-abbrev pub texts_of : List ℕ → List Text
+abbrev pub texts_of : List ℕ → List TextResult
 texts_of bytes = let n = utf8_valid_len bytes in if n == length bytes then texts_after complete (1, 1) (begin, []) bytes else texts_after cut (1, 1) (begin, []) (take n bytes)
 
 -- The texts of the first bytes of an input that are whole there, and what is begun, as a fault of the byte after those that are UTF-8.
-abbrev pub texts_so_far : List ℕ → List Text
+abbrev pub texts_so_far : List ℕ → List TextResult
 texts_so_far bytes = texts_after cut (1, 1) (begin, []) (take (utf8_valid_len bytes) bytes)
 
 -- ---- what is written of them

@@ -10,7 +10,7 @@ ghost use Rattle.fallible_json.specs.Json.{IsJson, not_text_at, told};
 ghost use Rattle.fallible_json.specs.Lexing.{Lexeme, lexed};
 ghost use Rattle.fallible_json.specs.Minifying.{bytes_of_all, minified, minified_or_wanted};
 ghost use Rattle.fallible_json.specs.Places.{place_of};
-ghost use Rattle.fallible_json.specs.Spelled.{Spell, SpellLongest, spelled};
+ghost use Rattle.fallible_json.specs.Spelled.{Spell, SpellLongest, tokens_with_bytes};
 ghost use Rattle.fallible_json.specs.Taking.{◌before◌};
 ghost use Rattle.fallible_json.specs.Texts.{Tokens, cut, texts_of, tokens_by};
 ghost use Rattle.fallible_json.specs.Trees.{BeginsTree, Tree, tokens_of, written};
@@ -40,7 +40,7 @@ pub fn law_minified<E>()
 {}
 
 /// The first fault of placed tokens is a failure of their source, a token with which those before it begin no tree, or the end if they are no tree; and those before it begin one.
-pub fn law_faults<E>()
+pub fn law_minified_faults<E>()
     ensures source { (text : List ℕ) (e : E) (l : List (Result Lexeme E))
         → minified text l ≡ Err (Source e)
         → (earlier : List Lexeme) × (rest : List (Result Lexeme E))
@@ -91,7 +91,7 @@ pub fn law_printed()
         → (lexemes printed : List Lexeme)
         × (lexed {E = Infallible} (numbered 0 (items bytes)) ≡ items lexemes)
         × (lexed {E = Infallible} (numbered 0 (items json)) ≡ items printed)
-        × (spelled json printed ≡ spelled bytes lexemes) }
+        × (tokens_with_bytes json printed ≡ tokens_with_bytes bytes lexemes) }
 {}
 
 /// What is told to be expected at the first fault of placed tokens are the tokens with which those before it begin a tree, and no others.

@@ -1,6 +1,6 @@
 -- Each turn keeps what the buffer holds, and each end says what was read and written.
 use Rattle.std.proofs.Common.{◌≡◌, ◌+◌, ◌-◌, ◌^◌, [], length, refl, ap, arith, length-take}
-use Rattle.fallible_json.proofs.BufferLemmas.{fault_comes, fits_held, held_read, last_comes, many_comes, part_comes, turn}
+use Rattle.fallible_json.proofs.BufferLemmas.{fault_comes, fits_held, held_read, last_comes, too_many_comes, part_comes, turn}
 use Rattle.fallible_json.proofs.SoFarLemmas.{nothing_read}
 use Rattle.fallible_json.proofs.report.run.Goals as goal
 
@@ -68,4 +68,4 @@ loop-read-preserved g c =
     }
 
 pub returns : goal.returns
-returns g c = many_comes g.R.ReadBytes.left g.R.ReadBytes.fails c.args.reader.now c.loop-read.reader c.loop-read.reader (g.M.MakeTexts.refused c.args.maker.now) c.args.prints g.W.WriteText.failed (g.W.WriteText.written c.args.writer.now) (g.W.WriteText.written c.loop-read.writer) (g.W.WriteText.written c.end_with-2.new.writer) c.end_with-2.new.writer c.loop-read.invariant.holds c.end_with-2.result refl (omega (arith, c.loop-read-test.false)) c.end_with-2.ensures
+returns g c = too_many_comes g.R.ReadBytes.left g.R.ReadBytes.fails c.args.reader.now c.loop-read.reader c.loop-read.reader (g.M.MakeTexts.refused c.args.maker.now) c.args.prints g.W.WriteText.failed (g.W.WriteText.written c.args.writer.now) (g.W.WriteText.written c.loop-read.writer) (g.W.WriteText.written c.end_with-2.new.writer) c.end_with-2.new.writer c.loop-read.invariant.holds c.end_with-2.result refl (omega (arith, c.loop-read-test.false)) c.end_with-2.ensures

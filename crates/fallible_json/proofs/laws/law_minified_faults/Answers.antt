@@ -1,6 +1,6 @@
 -- By what each token makes of the state, and since a text can be ended from each.
 use Rattle.fallible_json.proofs.FaultLemmas.{begins_tree_up_to_failure, ended_begins_tree, unexpected_begins_no_tree}
-use Rattle.fallible_json.proofs.laws.law_faults.Goals as goal
+use Rattle.fallible_json.proofs.laws.law_minified_faults.Goals as goal
 
 pub returns-clause-source : goal.returns-clause-source
 returns-clause-source g c = begins_tree_up_to_failure
