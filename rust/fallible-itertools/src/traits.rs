@@ -35,8 +35,8 @@ use crate::find_position::FindPositionTurn;
 use crate::fold_while::{FoldWhile, FoldWhileTurn, while_or_stop};
 #[cfg(feature = "std")]
 use crate::group_map::GroupMap;
-use crate::is_sorted::{InOrderTurn, SortedTurn};
-use crate::is_sorted_by::SortedByTurn;
+use crate::is_sorted::{IsSortedByKeyTurn, IsSortedTurn};
+use crate::is_sorted_by::IsSortedByTurn;
 #[cfg(feature = "alloc")]
 use crate::join::JoinTurn;
 #[cfg(feature = "std")]
@@ -1105,7 +1105,7 @@ pub trait FallibleItertools: FallibleIterator + Sized {
         F: FnMut(Self::Item) -> Result<K, Self::Error>,
     {
         let mut state = (None, f);
-        answer_or(self.fold_by(&mut state, &SortedTurn), true)
+        answer_or(self.fold_by(&mut state, &IsSortedByKeyTurn), true)
     }
 
     /// Returns whether the closure returns true for each two adjacent items. It is called on references to an item and the next one.
@@ -1144,7 +1144,7 @@ pub trait FallibleItertools: FallibleIterator + Sized {
         F: FnMut(&Self::Item, &Self::Item) -> Result<bool, Self::Error>,
     {
         let mut state = (None, f);
-        answer_or(self.fold_by(&mut state, &SortedByTurn), true)
+        answer_or(self.fold_by(&mut state, &IsSortedByTurn), true)
     }
 
     /// Returns whether no item is less than the one before it. An item that can't be compared with the one before it counts as less.
@@ -1183,7 +1183,7 @@ pub trait FallibleItertools: FallibleIterator + Sized {
     where
         Self::Item: PartialOrd,
     {
-        answer_or(self.fold_by(&mut (None, ()), &InOrderTurn), true)
+        answer_or(self.fold_by(&mut (None, ()), &IsSortedTurn), true)
     }
 
     // ---- adapters that let results pass

@@ -30,7 +30,7 @@ impl<R: ReadMessage> Messages<R> {
     ///     → length bytes ≤ 2 ^ 63
     ///     → ListsMade HasBytes
     ///     (seen_as messages_parts (unbounded_contract (message_step R.left R.stays R.no_room))).steps
-    ///     IsMemory result (messages_of 0 bytes) }
+    ///     BecomesMemory result (messages_of 0 bytes) }
     /// ```
     /// </details>
     pub fn new(reader: R) -> Messages<R> {

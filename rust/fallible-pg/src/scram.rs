@@ -48,7 +48,7 @@ pub trait Hash {
 }
 
 // Texts one after the other.
-fn joined(a: &[u8], b: &[u8], c: &[u8]) -> Result<Vec<u8>, Unsent> {
+fn concatenated(a: &[u8], b: &[u8], c: &[u8]) -> Result<Vec<u8>, Unsent> {
     let mut text = Vec::new();
     text.try_extend_from_slice(a)?;
     text.try_extend_from_slice(b)?;
@@ -67,12 +67,12 @@ fn joined(a: &[u8], b: &[u8], c: &[u8]) -> Result<Vec<u8>, Unsent> {
 /// ```
 /// </details>
 pub fn scram_first_message(nonce: &[u8]) -> Result<Vec<u8>, Unsent> {
-    let words = joined(b"n,,", b"n=,r=", nonce)?;
+    let words = concatenated(b"n,,", b"n=,r=", nonce)?;
     if words.len() > 1_073_741_800 {
         return Err(Unsent::Long);
     }
     let size = (words.len() as u32).to_be_bytes();
-    let body = joined(b"SCRAM-SHA-256\0", &size, &words)?;
+    let body = concatenated(b"SCRAM-SHA-256\0", &size, &words)?;
     message_of(b"p", &body)
 }
 
@@ -112,9 +112,9 @@ fn parts_of(asked: &[u8]) -> Question<'_> {
 
 // Whether a text that a server asks has these parts.
 fn has_parts(asked: &[u8], parts: Question<'_>) -> Result<bool, Unsent> {
-    let last = joined(parts.salt, b",i=", parts.digits)?;
-    let rest = joined(parts.nonce, b",s=", last.as_slice())?;
-    let text = joined(b"r", b"=", rest.as_slice())?;
+    let last = concatenated(parts.salt, b",i=", parts.digits)?;
+    let rest = concatenated(parts.nonce, b",s=", last.as_slice())?;
+    let text = concatenated(b"r", b"=", rest.as_slice())?;
     Ok(text.as_slice() == asked)
 }
 
@@ -142,9 +142,9 @@ fn xored(a: &[u8], b: &[u8]) -> Result<Vec<u8>, Unsent> {
 
 // All that was said, of which both prove that they know the password.
 fn said_words(own: &[u8], asked: &[u8], nonce: &[u8]) -> Result<Vec<u8>, Unsent> {
-    let first = joined(b"n=,r=", own, b",")?;
-    let last = joined(b",", b"c=biws,r=", nonce)?;
-    joined(&first, asked, &last)
+    let first = concatenated(b"n=,r=", own, b",")?;
+    let last = concatenated(b",", b"c=biws,r=", nonce)?;
+    concatenated(&first, asked, &last)
 }
 
 // What the client answers.
@@ -159,8 +159,8 @@ fn answer_words<H: Hash>(
     let signature = hash.hmac(&stored, said);
     let proof = xored(&key, &signature)?;
     let text = base64(&proof)?;
-    let unproved = joined(b"c=biws,r=", nonce, &[])?;
-    joined(&unproved, b",p=", &text)
+    let unproved = concatenated(b"c=biws,r=", nonce, &[])?;
+    concatenated(&unproved, b",p=", &text)
 }
 
 // What the server says last, where it knows the password too.
@@ -168,7 +168,7 @@ fn last_words<H: Hash>(hash: &H, stretched: &[u8], said: &[u8]) -> Result<Vec<u8
     let key = hash.hmac(stretched, b"Server Key");
     let signature = hash.hmac(&key, said);
     let text = base64(&signature)?;
-    joined(b"v=", &text, &[])
+    concatenated(b"v=", &text, &[])
 }
 
 /// A client's answer to what a server asks, and by which words the server proves that it knows the password too.

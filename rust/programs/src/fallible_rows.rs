@@ -22,11 +22,7 @@ pub use summing::sum_of_rows;
 pub fn run<R: ReadByte, W: WriteText>(
     reader: &mut R,
     writer: &mut W,
-) -> Result<(), RunFault<BadRow>>
-// Each says which bytes were read, at most `u64::MAX`, and what their report is.
-
-    // No row that was closed before the failed read is refused.
-{
+) -> Result<(), RunFault<BadRow>> {
     let count = match counting::count_above(reader) {
         Ok(count) => count,
         Err(RowFault::Row(place)) => return Err(RunFault::Input(BadRow { place })),

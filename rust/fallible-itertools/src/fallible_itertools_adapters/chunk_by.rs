@@ -3,7 +3,8 @@
 use crate::base::Turn;
 use crate::base::{alone, pushed};
 use crate::fallible_itertools_adapters::staging::{
-    AnswerAndDue, Emitted, Stage, Stop, drive_stage, let_go, next_until, one, stopped, with_held,
+    AnswerAndDue, Emitted, Stage, Stop, drive_stage, let_go, next_until, one, stop_answer,
+    with_held,
 };
 use alloc::vec::Vec;
 use fallible_iterator::FallibleIterator;
@@ -99,7 +100,7 @@ impl<X, K: PartialEq, E, F: FnMut(&X) -> Result<K, E>> Stage<(Option<(K, Vec<X>)
 
     #[inline(always)]
     fn answer_due(&self, due: Stop<E>) -> AnswerAndDue<(K, Vec<X>), Stop<E>, E> {
-        (stopped(due), None)
+        (stop_answer(due), None)
     }
 }
 

@@ -3,7 +3,7 @@
 use crate::base::Turn;
 use crate::base::{alone, pushed};
 use crate::fallible_itertools_adapters::staging::{
-    AnswerAndDue, Emitted, Stage, Stop, drive_stage, emitted_of, let_go, one, put_due, stopped,
+    AnswerAndDue, Emitted, Stage, Stop, drive_stage, emitted_of, let_go, one, put_due, stop_answer,
     with_held,
 };
 use alloc::vec::Vec;
@@ -51,7 +51,7 @@ impl<I: FallibleIterator> FallibleIterator for Chunks<I> {
     /// Returns the stop that is due, without a draw. Otherwise it draws until the batch has n items, or a stop comes.
     fn next(&mut self) -> Result<Option<Vec<I::Item>>, I::Error> {
         match self.stage.1.take() {
-            Some(stop) => stopped(stop),
+            Some(stop) => stop_answer(stop),
             None => {
                 let adapter = ChunksStage;
                 let (answer, due) = filled(&mut self.it, &mut self.stage.0, &adapter);
@@ -124,7 +124,7 @@ impl<X, E> Stage<((usize, Option<Vec<X>>), ()), X, E> for ChunksStage {
 
     #[inline(always)]
     fn answer_due(&self, due: Stop<E>) -> AnswerAndDue<Vec<X>, Stop<E>, E> {
-        (stopped(due), None)
+        (stop_answer(due), None)
     }
 }
 

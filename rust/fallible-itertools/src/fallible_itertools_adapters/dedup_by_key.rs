@@ -2,7 +2,8 @@
 
 use crate::base::Turn;
 use crate::fallible_itertools_adapters::staging::{
-    AnswerAndDue, Emitted, Stage, Stop, drive_stage, let_go, next_until, one, stopped, with_held,
+    AnswerAndDue, Emitted, Stage, Stop, drive_stage, let_go, next_until, one, stop_answer,
+    with_held,
 };
 use fallible_iterator::FallibleIterator;
 
@@ -87,7 +88,7 @@ impl<X, E, K: PartialEq, F: FnMut(&X) -> Result<K, E>> Stage<(Option<(K, X)>, F)
 
     #[inline(always)]
     fn answer_due(&self, due: Stop<E>) -> AnswerAndDue<X, Stop<E>, E> {
-        (stopped(due), None)
+        (stop_answer(due), None)
     }
 }
 

@@ -2,8 +2,8 @@
 
 use crate::base::Turn;
 use crate::fallible_itertools_adapters::staging::{
-    AnswerAndDue, Emitted, Stage, Stop, drawn_until, drive_stage, let_go, one, put_due, stopped,
-    with_held,
+    AnswerAndDue, Emitted, Stage, Stop, drawn_until, drive_stage, let_go, one, put_due,
+    stop_answer, with_held,
 };
 use fallible_iterator::FallibleIterator;
 
@@ -53,7 +53,7 @@ where
     /// Returns the stop that is due, without a draw. Otherwise it draws until an item differs from the buffered one, or a stop comes.
     fn next(&mut self) -> Result<Option<(usize, I::Item)>, I::Error> {
         match self.stage.1.take() {
-            Some(stop) => stopped(stop),
+            Some(stop) => stop_answer(stop),
             None => {
                 // in a local, so that a compiler keeps it in registers
                 let mut held = (self.stage.0.0.take(), ());
@@ -114,6 +114,6 @@ impl<X: PartialEq, E> Stage<(Option<(usize, X)>, ()), X, E> for EqualCount {
 
     #[inline(always)]
     fn answer_due(&self, due: Stop<E>) -> AnswerAndDue<(usize, X), Stop<E>, E> {
-        (stopped(due), None)
+        (stop_answer(due), None)
     }
 }

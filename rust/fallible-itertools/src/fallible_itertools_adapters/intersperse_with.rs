@@ -3,7 +3,7 @@
 use crate::base::Turn;
 use crate::fallible_itertools_adapters::intersperse::{hint_parting, separated};
 use crate::fallible_itertools_adapters::staging::{
-    AnswerAndDue, Emitted, Stage, Stop, drive_stage, next_stage, one, stopped,
+    AnswerAndDue, Emitted, Stage, Stop, drive_stage, next_stage, one, stop_answer,
 };
 use fallible_iterator::FallibleIterator;
 
@@ -78,7 +78,7 @@ impl<X, E, F: FnMut() -> Result<X, E>> Stage<(bool, F), X, E> for SeparatorCall 
 
     #[inline(always)]
     fn on_stop(&self, _p: &mut (bool, F), stop: Stop<E>) -> Emitted<X, X, E> {
-        one(stopped(stop))
+        one(stop_answer(stop))
     }
 
     #[inline(always)]

@@ -57,7 +57,7 @@ pub fn one_then<B, D, E>(answer: Result<Option<B>, E>, due: D) -> Emitted<B, D, 
 /// ```
 /// </details>
 #[inline(always)]
-pub fn stopped<B, E>(stop: Stop<E>) -> Result<Option<B>, E> {
+pub fn stop_answer<B, E>(stop: Stop<E>) -> Result<Option<B>, E> {
     match stop {
         None => Ok(None),
         Some(e) => Err(e),
@@ -78,7 +78,7 @@ pub fn stopped<B, E>(stop: Stop<E>) -> Result<Option<B>, E> {
 pub fn let_go<B, E>(held: Option<B>, stop: Stop<E>) -> Emitted<B, Stop<E>, E> {
     match held {
         Some(y) => one_then(Ok(Some(y)), stop),
-        None => one(stopped(stop)),
+        None => one(stop_answer(stop)),
     }
 }
 

@@ -2,7 +2,7 @@
 
 use crate::base::Turn;
 use crate::fallible_itertools_adapters::staging::{
-    AnswerAndDue, Emitted, Stage, Stop, drive_stage, next_stage, one, one_then, stopped,
+    AnswerAndDue, Emitted, Stage, Stop, drive_stage, next_stage, one, one_then, stop_answer,
 };
 use fallible_iterator::FallibleIterator;
 
@@ -81,7 +81,7 @@ impl<X, E, P: FnMut(&X) -> Result<bool, E>> Stage<((), P), X, E> for InclusiveSt
 
     #[inline(always)]
     fn on_stop(&self, _p: &mut ((), P), stop: Stop<E>) -> Emitted<X, (), E> {
-        one(stopped(stop))
+        one(stop_answer(stop))
     }
 
     #[inline(always)]

@@ -3,7 +3,7 @@
 use crate::base::Turn;
 use crate::base::sum;
 use crate::fallible_itertools_adapters::staging::{
-    AnswerAndDue, Emitted, Stage, Stop, drive_stage, let_go, next_stage, one, stopped,
+    AnswerAndDue, Emitted, Stage, Stop, drive_stage, let_go, next_stage, one, stop_answer,
 };
 use core::mem::replace;
 use fallible_iterator::FallibleIterator;
@@ -61,7 +61,7 @@ impl<I: FallibleIterator> FallibleIterator for WithPosition<I> {
     /// Returns the stop that is due, without a draw. Otherwise it draws once if an item is buffered, and otherwise twice, or up to a stop.
     fn next(&mut self) -> Result<Option<(Position, I::Item)>, I::Error> {
         match self.stage.1.take() {
-            Some(stop) => stopped(stop),
+            Some(stop) => stop_answer(stop),
             None => match &self.stage.0.0 {
                 Some(_) => next_stage(&mut self.it, &mut self.stage, &PositionStage),
                 None => match self.it.next() {
@@ -121,7 +121,7 @@ impl<X, E> Stage<(Option<(bool, X)>, ()), X, E> for PositionStage {
 
     #[inline(always)]
     fn answer_due(&self, due: Stop<E>) -> AnswerAndDue<(Position, X), Stop<E>, E> {
-        (stopped(due), None)
+        (stop_answer(due), None)
     }
 }
 

@@ -35,8 +35,8 @@ pub struct Range {
 }
 
 impl Set {
-    // The set of the short form at a place of a section that ends at `limit`, or its first fault.
-    fn short_at(file: &[u8], limit: usize, place: usize) -> Result<Set, ElfFault> {
+    // The set of 32-bit DWARF at a place of a section that ends at `limit`, or its first fault.
+    fn dwarf32_at(file: &[u8], limit: usize, place: usize) -> Result<Set, ElfFault> {
         let length = u32_at(file, place) as usize;
         if length < 12 || limit - place - 4 < length {
             return Err(ElfFault::at(place, Damage::SetCut));
@@ -57,8 +57,8 @@ impl Set {
         })
     }
 
-    // The set of the long form at a place of a section that ends at `limit`, or its first fault.
-    fn long_at(file: &[u8], limit: usize, place: usize) -> Result<Set, ElfFault> {
+    // The set of 64-bit DWARF at a place of a section that ends at `limit`, or its first fault.
+    fn dwarf64_at(file: &[u8], limit: usize, place: usize) -> Result<Set, ElfFault> {
         if limit - place < 32 {
             return Err(ElfFault::at(place, Damage::SetCut));
         }
@@ -89,11 +89,11 @@ impl Set {
         }
         let length = u32_at(file, place);
         if length == 0xffff_ffff {
-            return Set::long_at(file, limit, place);
+            return Set::dwarf64_at(file, limit, place);
         }
         if length >= 0xffff_fff0 {
             return Err(ElfFault::at(place, Damage::SetForm));
         }
-        Set::short_at(file, limit, place)
+        Set::dwarf32_at(file, limit, place)
     }
 }

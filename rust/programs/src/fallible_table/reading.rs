@@ -15,7 +15,7 @@ const BUFFER: usize = 65536;
 const READS: u64 = 281_474_976_710_656;
 
 // How far the buffer is filled by a read after so many records: the first record is read alone.
-fn end_of_read(records: u64) -> usize {
+fn filled_by_read(records: u64) -> usize {
     if records == 0 { RECORD } else { BUFFER }
 }
 
@@ -34,7 +34,7 @@ fn sum_up_read<R: ReadBytes>(
     let mut totals = NO_TOTALS;
     let mut held = 0;
     for read in 0..READS {
-        match read_after(reader, buffer, held, end_of_read(totals.records)) {
+        match read_after(reader, buffer, held, filled_by_read(totals.records)) {
             Ok(0) => return Ok(sum_up_more(totals, &buffer[..held])),
             Ok(count) => {
                 let filled = held + count;

@@ -21,9 +21,7 @@ fn write_report<W: WriteText>(totals: Totals, writer: &mut W) -> io::Result<()> 
 pub fn run<R: ReadBytes, W: WriteText>(
     reader: &mut R,
     writer: &mut W,
-) -> Result<(), RunFault<TableFault>>
-// Reading failed, and of which kind.
-{
+) -> Result<(), RunFault<TableFault>> {
     let totals = match read_totals(reader) {
         Ok(Ok(totals)) => totals,
         Ok(Err(fault)) => return Err(RunFault::Input(fault)),

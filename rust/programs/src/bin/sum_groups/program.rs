@@ -31,10 +31,7 @@ fn report_of_bytes<M: MakeReport>(
 // Why bytes are no rows, if they are none. It allocates nothing.
 fn fault_of_bytes(bytes: &[u8]) -> Option<GroupsFault> {
     match from_utf8(bytes) {
-        Ok(text) => match bad_row_of(text) {
-            Some(bad) => Some(GroupsFault::Row(bad)),
-            None => None,
-        },
+        Ok(text) => bad_row_of(text).map(GroupsFault::Row),
         Err(e) => Some(fault_of_front(bytes, e.valid_up_to())),
     }
 }

@@ -1,25 +1,9 @@
 // The program, over any input and any two outputs.
 
 use fallible_programs::fallible_table::report::run;
-use fallible_programs::fallible_table::table::TableFault;
 use program_io::ending::ended;
-use program_io::fault::RunFault;
 use program_io::reading::ReadBytes;
 use program_io::writing::WriteText;
-
-// `run` over `input`.
-fn run_table<R: ReadBytes, W: WriteText>(
-    input: &mut R,
-    output: &mut W,
-) -> Result<(), RunFault<TableFault>> {
-    match run(input, output) {
-        Ok(()) => Ok(()),
-        Err(RunFault::Input(fault)) => Err(RunFault::Input(fault)),
-        Err(RunFault::Read) => Err(RunFault::Read),
-        Err(RunFault::Memory) => Err(RunFault::Memory),
-        Err(RunFault::Write) => Err(RunFault::Write),
-    }
-}
 
 // Runs over `input`, and tells `errors` of a fault, with the name of the input where that has one. The status that the program ends with; an `Err` where there was a line to tell and it could not be written.
 pub(crate) fn program<R: ReadBytes, W: WriteText, E: WriteText>(
@@ -28,5 +12,5 @@ pub(crate) fn program<R: ReadBytes, W: WriteText, E: WriteText>(
     name: Option<&str>,
     errors: &mut E,
 ) -> Result<u8, u8> {
-    ended(run_table(input, output), name, errors)
+    ended(run(input, output), name, errors)
 }

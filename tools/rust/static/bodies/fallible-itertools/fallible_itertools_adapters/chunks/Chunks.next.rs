@@ -1,8 +1,8 @@
 // changed: no allocator is passed
-// proved: 23466efb
+// proved: e8b8dd07
 fn next(&mut self) -> Result<Option<Vec<I::Item>>, I::Error> {
     match self.stage.1.take() {
-        Some(stop) => stopped(stop),
+        Some(stop) => stop_answer(stop),
         None => {
             let adapter = ChunksStage;
             let (answer, due) = filled(&mut self.it, &mut self.stage.0, &adapter);

@@ -1,5 +1,5 @@
 // changed: no allocation fails
-// proved: 0b260dab
+// proved: 53e1785e
 pub fn kmerge<I>(sources: Vec<I>) -> KMerge<I>
 where
     I: FallibleIterator,
@@ -7,6 +7,6 @@ where
 {
     let mut rest = sources;
     let n = rest.len();
-    let tree = nest(&mut rest, n);
+    let tree = tree_of_last(&mut rest, n);
     KMerge { tree }
 }

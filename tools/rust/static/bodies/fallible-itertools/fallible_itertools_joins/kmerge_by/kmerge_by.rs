@@ -1,5 +1,5 @@
 // changed: no allocation fails
-// proved: 2fb3746d
+// proved: a439cab6
 pub fn kmerge_by<I, F>(sources: Vec<I>, f: F) -> KMergeBy<I, F>
 where
     I: FallibleIterator,
@@ -7,6 +7,6 @@ where
 {
     let mut rest = sources;
     let n = rest.len();
-    let tree = nest(&mut rest, n);
+    let tree = tree_of_last(&mut rest, n);
     KMergeBy { tree, f }
 }

@@ -1,6 +1,6 @@
 // changed: no allocation fails
-// proved: 7183c27f
-fn nest<I: FallibleIterator>(sources: &mut Vec<I>, n: usize) -> MergeTree<Fuse<I>> {
+// proved: a428577e
+fn tree_of_last<I: FallibleIterator>(sources: &mut Vec<I>, n: usize) -> MergeTree<Fuse<I>> {
     if n == 0 {
         return MergeTree::Ended;
     }
@@ -11,7 +11,7 @@ fn nest<I: FallibleIterator>(sources: &mut Vec<I>, n: usize) -> MergeTree<Fuse<I
         };
     }
     let half = n / 2;
-    let right = nest(sources, n - half);
-    let left = nest(sources, half);
+    let right = tree_of_last(sources, n - half);
+    let left = tree_of_last(sources, half);
     MergeTree::Both(Box::new(left), None, Box::new(right), None)
 }
