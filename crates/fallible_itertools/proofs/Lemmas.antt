@@ -1,4 +1,4 @@
--- The lemmas on each consumer, by the name of its module, and those of the two crates below, handed on.
+-- The lemmas on each consumer, by the name of its module, in `Lexing` those on a lexer, and those of the two crates below, handed on.
 pub mod AllUnique
 pub mod AtMostOne
 pub mod CheckedSum

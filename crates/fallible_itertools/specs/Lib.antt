@@ -1,4 +1,4 @@
--- What the clauses of `src/` cite, in `Laws` what follows from it, and what the two crates below cite, handed on, so that a crate above names this one alone.
+-- What the clauses of `src/` cite, in `Laws` what follows from it, in `Lexing` what the contract of a lexer cites, and what the two crates below cite, handed on, so that a crate above names this one alone.
 pub mod AllUnique
 pub mod Begun
 pub mod CheckedSum

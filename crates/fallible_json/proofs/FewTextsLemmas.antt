@@ -1,9 +1,10 @@
 -- Bytes have at most one text more than they are.
 use Rattle.std.proofs.Common.{Bool, true, false, ◌≡◌, ℕ, suc, ◌+◌, ◌≤◌, List, [], ◌∷◌, ◌++◌, length, Option, Some, None, Result, Ok, Err, if◌then◌else◌, not, arith}
 use Rattle.std.specs.Prelude.{filter}
+use Rattle.std.specs.Option.{option_map_or}
 use Rattle.std.specs.declared.convert.Infallible.{Infallible}
 use Rattle.fallible_iterator.specs.Lists.{items, numbered}
-use Rattle.fallible_itertools.specs.Lexing.{lexed_by, lexed_from, where_goes}
+use Rattle.fallible_itertools.specs.Lexing.{lexed_by, lexed_from}
 use Rattle.fallible_json.specs.Bytes.{is_open}
 use Rattle.fallible_json.specs.Grammar.{State, after_token, begin, is_whole}
 use Rattle.fallible_json.specs.Lexing.{Begun, Lexeme, Placed, begun_at, begun_with, closed, lexed, token_rules}
@@ -22,7 +23,7 @@ few_either false a b n p q = q
 abbrev Lexed : Type 0
 Lexed = List (Result Lexeme (LexFault Infallible))
 
-few_goes : (o : Option Begun) (stops : Lexed) (goes : Begun → Lexed) (n : ℕ) → length stops ≤ n → ((s : Begun) → length (goes s) ≤ n) → length (where_goes o stops goes) ≤ n
+few_goes : (o : Option Begun) (stops : Lexed) (goes : Begun → Lexed) (n : ℕ) → length stops ≤ n → ((s : Begun) → length (goes s) ≤ n) → length (option_map_or goes o stops) ≤ n
 few_goes None stops goes n p q = p
 few_goes (Some s) stops goes n p q = q s
 
@@ -30,7 +31,7 @@ few_from : (x : Placed) (n : ℕ) (tail : Option Begun → Lexed) → length (ta
 few_from x n tail p q =
     let none = Err (Unknown x.0) ∷ tail None in
     let goes = λ (s : Begun). tail (Some s) in
-    few_either (is_blank x.1) (tail None) (where_goes (begun_at x) none goes) (n + 1) (omega (arith, p)) (few_goes (begun_at x) none goes (n + 1) (omega (arith, p)) q)
+    few_either (is_blank x.1) (tail None) (option_map_or goes (begun_at x) none) (n + 1) (omega (arith, p)) (few_goes (begun_at x) none goes (n + 1) (omega (arith, p)) q)
 
 -- placed bytes have at most as many tokens, and one more where one is begun
 few_lexed : (l : List (Result Placed Infallible)) → (length (lexed_by token_rules None l) ≤ length l) × ((s : Begun) → length (lexed_by token_rules (Some s) l) ≤ length l + 1)

@@ -1,9 +1,10 @@
 -- What the run of a token makes of a list.
 use Rattle.std.specs.Prelude.{◌≡◌, ℕ, Option, Some, None, option_map, Ok, Err, Result, List, [], ◌∷◌}
+use Rattle.std.specs.Option.{option_map_or}
 use Rattle.std.proofs.Common.{refl}
 use Rattle.fallible_iterator.specs.Contract.{Contract, Stays}
 use Rattle.fallible_iterator.specs.Lists.{Lists}
-use Rattle.fallible_itertools.specs.Lexing.{lexed_by, rest_lexed_by, where_goes}
+use Rattle.fallible_itertools.specs.Lexing.{lexed_by, rest_lexed_by}
 use Rattle.fallible_json.specs.Lexing.{Begun, Lexeme, Placed, begun_at, closed, lexed, run_of, token_rules}
 use Rattle.fallible_json.specs.Tokens.{after, begun_by}
 use Rattle.fallible_json.specs.declared.lexer.LexFault.{LexFault}
@@ -21,7 +22,7 @@ begins_none (place, byte) is = rw is refl
 module _ {E : Type 0} where
   -- the tokens from a byte on that begins this; `tail` makes the tokens after it, by what is begun
   abbrev pub lexed_begun : Option Phase → ℕ → (Option Begun → List (Result Lexeme (LexFault E))) → List (Result Lexeme (LexFault E))
-  lexed_begun o place tail = where_goes (option_map (λ phase. (place, place, phase)) o) (Err (Unknown place) ∷ tail None) (λ s. tail (Some s))
+  lexed_begun o place tail = option_map_or (λ s. tail (Some s)) (option_map (λ phase. (place, place, phase)) o) (Err (Unknown place) ∷ tail None)
 
   module _ (first : ℕ) where
     -- the token that its bytes are, or the failure among them

@@ -1,6 +1,7 @@
 -- The tokens of placed bytes.
-use Rattle.std.specs.Prelude.{ℕ, Option, Some, None, option_map, Result, Ok, Err, List, [], ◌∷◌}
-use Rattle.fallible_itertools.specs.Lexing.{TokenRules, lexed_by, rest_lexed_by, where_goes}
+use Rattle.std.specs.Prelude.{ℕ, Option, Some, None, option_map, unwrap_or, Result, Ok, Err, List, [], ◌∷◌}
+use Rattle.std.specs.Option.{option_map_or}
+use Rattle.fallible_itertools.specs.Lexing.{TokenRules, lexed_by, rest_lexed_by}
 use Rattle.fallible_json.specs.Tokens.{after, begun_by, is_blank, token_of}
 use Rattle.fallible_json.specs.Wanted.{wanted_in}
 use Rattle.fallible_json.specs.declared.lexer.LexFault.{LexFault}
@@ -31,7 +32,7 @@ begun_with (first, last, phase) (place, byte) = option_map (λ next. (first, pla
 
 -- the token with a byte that goes on with it
 abbrev pub with_byte : Phase → ℕ → Phase
-with_byte phase byte = where_goes (after phase byte) phase (λ next. next)
+with_byte phase byte = unwrap_or (after phase byte) phase
 
 module _ {E : Type 0} where
   -- a token at its places, or the failure of one whose last byte doesn't end it, with what could come next
@@ -47,7 +48,7 @@ module _ {E : Type 0} where
   -- The bytes in front that go on with a token, one after the other: the place of the last and what the token is then, or a failure that comes before; and the list without them, or without the failure.
   unfoldable pub run_of : ℕ × Phase → List (Result Placed E) → Result (ℕ × Phase) E × List (Result Placed E)
   run_of b [] = (Ok b, [])
-  run_of b (Ok x ∷ l) = where_goes (after b.1 x.1) (Ok b, Ok x ∷ l) (λ phase. run_of (x.0, phase) l)
+  run_of b (Ok x ∷ l) = option_map_or (λ phase. run_of (x.0, phase) l) (after b.1 x.1) (Ok b, Ok x ∷ l)
   run_of b (Err e ∷ l) = (Err e, l)
 
   -- ---- the tokens of a list

@@ -28,10 +28,7 @@ pub enum LexFault<E> {
 fn with_byte(phase: Phase, byte: u8) -> Phase
     ensures { result ≡ with_byte phase byte }
 {
-    match after(phase, byte) {
-        Some(next) => next,
-        None => phase,
-    }
+    after(phase, byte).unwrap_or(phase)
 }
 
 // The token whose bytes are these, as `next` returns it.

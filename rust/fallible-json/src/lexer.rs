@@ -17,10 +17,7 @@ pub enum LexFault<E> {
 
 // The token with a byte that goes on with it.
 fn with_byte(phase: Phase, byte: u8) -> Phase {
-    match after(phase, byte) {
-        Some(next) => next,
-        None => phase,
-    }
+    after(phase, byte).unwrap_or(phase)
 }
 
 // The token whose bytes are these, as `next` returns it.

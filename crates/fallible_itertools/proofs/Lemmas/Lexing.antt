@@ -1,5 +1,6 @@
 -- The first token of a list and what one answer leaves of it, and the draws that take them.
 use Rattle.std.specs.Prelude.{◌≡◌, ℕ, ◌+◌, Bool, true, false, not, Option, Some, None, Ok, Err, Result, List, [], ◌∷◌}
+use Rattle.std.specs.Option.{option_map_or}
 use Rattle.std.proofs.Common.{arith, refl, sym, ap, subst, ◌∙◌}
 use Rattle.fallible_iterator.specs.Traces.{Answered, end, item}
 use Rattle.fallible_iterator.specs.Contract.{Contract, Lawful, Stays}
@@ -7,7 +8,7 @@ use Rattle.fallible_iterator.specs.Laws.Contract.{kept_by_draws_of_stays, kept_b
 use Rattle.fallible_iterator.specs.Lists.{Acts, Lists, found, nth_of, rest_first, rest_stop, rest_true, result_answer, searched}
 use Rattle.fallible_iterator.specs.Searching.{SearchDrains, find_pick}
 use Rattle.fallible_itertools_adapters.specs.Ahead.{Lowers, TakesMade}
-use Rattle.fallible_itertools.specs.Lexing.{TokenRules, lexed_by, rest_lexed_by, where_goes}
+use Rattle.fallible_itertools.specs.Lexing.{TokenRules, lexed_by, rest_lexed_by}
 use Rattle.fallible_iterator.proofs.Lemmas.Lists.Rest.{lists_rest_find}
 use Rattle.fallible_iterator.proofs.Lemmas.Lists.Searched.{found_of_lists}
 use Rattle.fallible_itertools_adapters.proofs.Lemmas.Ahead.{LeavesOthers, first_made, lowers_searched, lowers_transitive}
@@ -21,7 +22,7 @@ module _ {A S E B F : Type 0} (rules : TokenRules A S E B F) where
 
   -- what the first item says of the tokens and of what one answer leaves: they are those that it begins; there are none; or the failure is the first
   abbrev pub AfterFirst : Result (Option A) E → List (Result B F) → List (Result A E) → List (Result A E) → Type 0
-  AfterFirst (Ok (Some x)) out left rest = (out ≡ where_goes (rules.begins x) (rules.alone x ∷ lexed_by rules None rest) (λ s. lexed_by rules (Some s) rest)) × (left ≡ where_goes (rules.begins x) rest (λ s. rest_lexed_by rules (Some s) rest))
+  AfterFirst (Ok (Some x)) out left rest = (out ≡ option_map_or (λ s. lexed_by rules (Some s) rest) (rules.begins x) (rules.alone x ∷ lexed_by rules None rest)) × (left ≡ option_map_or (λ s. rest_lexed_by rules (Some s) rest) (rules.begins x) rest)
   AfterFirst (Ok None) out left rest = out ≡ []
   AfterFirst (Err e) out left rest = (out ≡ Err (rules.told e) ∷ lexed_by rules None rest) × (left ≡ rest)
 
@@ -48,7 +49,7 @@ module _ {A S E B F : Type 0} (rules : TokenRules A S E B F) where
   abbrev Others : Option S → List (Result A E) → Type 0
   Others begun l = lexed_by rules None (rest_lexed_by rules begun l) ≡ rest_first (lexed_by rules begun l)
 
-  others_begun : (o : Option S) (x : A) (l : List (Result A E)) → ((begun : Option S) → Others begun l) → lexed_by rules None (where_goes o l (λ s. rest_lexed_by rules (Some s) l)) ≡ rest_first (where_goes o (rules.alone x ∷ lexed_by rules None l) (λ s. lexed_by rules (Some s) l))
+  others_begun : (o : Option S) (x : A) (l : List (Result A E)) → ((begun : Option S) → Others begun l) → lexed_by rules None (option_map_or (λ s. rest_lexed_by rules (Some s) l) o l) ≡ rest_first (option_map_or (λ s. lexed_by rules (Some s) l) o (rules.alone x ∷ lexed_by rules None l))
   unfolding rest_first
   others_begun (Some s) x l others = others (Some s)
   others_begun None x l others = refl
@@ -127,8 +128,8 @@ module _ {A S E B F : Type 0} (rules : TokenRules A S E B F) where
     takes_alone x {o = o} is none same = record {
       keeps = kept_by_draws_of_stays stays_searched;
       lowers = lowers_transitive m o (lowers_as is) (λ n b. (n, b, omega arith)) (λ f. (f, omega arith));
-      first = λ l i. let k = after_first_of is l i in first_made (rules.alone x) (lexed_by rules None l) _ (k.0 ∙ ap (λ z. where_goes z (rules.alone x ∷ lexed_by rules None (rest_true stands l)) (λ s. lexed_by rules (Some s) (rest_true stands l))) none) same;
-      rest = λ l i goes. let k = after_first_of is l i in subst (Lists m.steps t) (sym (k.1 ∙ ap (λ z. where_goes z (rest_true stands l) (λ s. rest_lexed_by rules (Some s) (rest_true stands l))) none)) (lists_after is (λ none. cc) l i);
+      first = λ l i. let k = after_first_of is l i in first_made (rules.alone x) (lexed_by rules None l) _ (k.0 ∙ ap (λ z. option_map_or (λ s. lexed_by rules (Some s) (rest_true stands l)) z (rules.alone x ∷ lexed_by rules None (rest_true stands l))) none) same;
+      rest = λ l i goes. let k = after_first_of is l i in subst (Lists m.steps t) (sym (k.1 ∙ ap (λ z. option_map_or (λ s. rest_lexed_by rules (Some s) (rest_true stands l)) z (rest_true stands l)) none)) (lists_after is (λ none. cc) l i);
     }
 
     -- at an item that begins a token: what goes on with it is taken
@@ -136,6 +137,6 @@ module _ {A S E B F : Type 0} (rules : TokenRules A S E B F) where
     takes_token x {b = b} {v = v} {o = o} is begins tail same = record {
       keeps = kept_by_draws_transitive (kept_by_draws_of_stays stays_searched) (kept_by_draws_of_stays tail.stays);
       lowers = lowers_transitive m o (lowers_as is) tail.stays.bound tail.stays.remaining;
-      first = λ l i. let k = after_first_of is l i in same ∙ sym (tail.first (rest_true stands l) (lists_after is (λ none. cc) l i)) ∙ ap (nth_of 0) (sym (k.0 ∙ ap (λ z. where_goes z (rules.alone x ∷ lexed_by rules None (rest_true stands l)) (λ s. lexed_by rules (Some s) (rest_true stands l))) begins));
-      rest = λ l i goes. let k = after_first_of is l i in subst (Lists m.steps v) (sym (k.1 ∙ ap (λ z. where_goes z (rest_true stands l) (λ s. rest_lexed_by rules (Some s) (rest_true stands l))) begins)) (tail.rest (rest_true stands l) (lists_after is (λ none. cc) l i));
+      first = λ l i. let k = after_first_of is l i in same ∙ sym (tail.first (rest_true stands l) (lists_after is (λ none. cc) l i)) ∙ ap (nth_of 0) (sym (k.0 ∙ ap (λ z. option_map_or (λ s. lexed_by rules (Some s) (rest_true stands l)) z (rules.alone x ∷ lexed_by rules None (rest_true stands l))) begins));
+      rest = λ l i goes. let k = after_first_of is l i in subst (Lists m.steps v) (sym (k.1 ∙ ap (λ z. option_map_or (λ s. rest_lexed_by rules (Some s) (rest_true stands l)) z (rest_true stands l)) begins)) (tail.rest (rest_true stands l) (lists_after is (λ none. cc) l i));
     }
