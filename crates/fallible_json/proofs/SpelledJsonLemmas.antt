@@ -70,7 +70,7 @@ utf8_joined ((first, last, token) ∷ lexemes) place front before bytes here (bl
     let lost : IsUtf8 (front ++ (spelling ++ rest)) = without_blanks each.0 front blanks (spelling ++ rest) each.1 (subst (λ z. IsUtf8 (front ++ z)) is utf8) in
     let more = utf8_joined lexemes (last + 1) (front ++ spelling) ((before ++ blanks) ++ spelling) rest (next_place place first last before blanks spelling here at_first at_last) others (subst IsUtf8 (sym (append_assoc front spelling rest)) lost) in
     let same : bytes_of (before ++ bytes) first last ≡ spelling = bytes_of_token place first last token before bytes blanks spelling rest here is at_first at_last (reads_token token spelling is_spelled) in
-    subst (λ z. IsUtf8 (front ++ (z ++ joined (tokens_with_bytes (before ++ bytes) lexemes)))) (sym same) (subst (λ z. IsUtf8 (front ++ (spelling ++ joined (tokens_with_bytes z lexemes)))) (sym (splits_at before bytes blanks spelling rest is).1) (subst IsUtf8 (append_assoc front spelling (joined (spelled (((before ++ blanks) ++ spelling) ++ rest) lexemes))) more))
+    subst (λ z. IsUtf8 (front ++ (z ++ joined (tokens_with_bytes (before ++ bytes) lexemes)))) (sym same) (subst (λ z. IsUtf8 (front ++ (spelling ++ joined (tokens_with_bytes z lexemes)))) (sym (splits_at before bytes blanks spelling rest is).1) (subst IsUtf8 (append_assoc front spelling (joined (tokens_with_bytes (((before ++ blanks) ++ spelling) ++ rest) lexemes))) more))
 
 -- ---- the text without blanks
 
