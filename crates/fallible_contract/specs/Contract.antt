@@ -3,6 +3,7 @@ use Rattle.std.specs.Prelude.{◌≡◌, ℕ, ◌≤◌, ◌<◌, Option, Some, 
 use Rattle.std.specs.Borrow.{GName}
 use Rattle.std.specs.Iterator.{Count, IsFinite, size, endless}
 use Rattle.fallible_contract.specs.Traces.{Answered, Run, items_in}
+use Rattle.fallible_contract.specs.Sound.{SoundWhere, HintsHold, own_sound, as_source}
 
 -- No run from s has more than n items. It is the bound of a type that states no other.
 pub record BoundsRuns {S A E : Type 0} (steps : S → Answered A E → S → Type 0) (s : S) (n : ℕ) : Type 0 where
@@ -36,6 +37,8 @@ pub record Contract (S A E : Type 0) : Type 1 where
   pub lenders : S → Lenders
   -- the definition of what it returns: draws may return these answers and leave that
   pub traces : S → List (Answered A E) → S → Type 0
+  -- of which values a bound that a hint may have is sound
+  pub sound : SoundWhere S
 
 module _ {S A E : Type 0} (m : Contract S A E) where
   -- at most k items are still to come of s: k is a bound of it, or one that is no greater is
@@ -94,11 +97,12 @@ module _ {S A E : Type 0} (m : Contract S A E) where
     pub lenders : m.lenders t ≡ m.lenders s
     pub sure : NeverFails s → NeverFails t
 
-  -- What each impl proves: each draw keeps what `KeptByDraw` says, and it is finite just where it has a bound.
+  -- What each impl proves: each draw keeps what `KeptByDraw` says, it is finite just where it has a bound, its runs are its definition's, and its hints are sound where it says so.
   pub record Lawful : Type 0 where
     pub kept_by_draw : (s : S) (r : Answered A E) (t : S) → m.can_next s → m.steps s r t → KeptByDraw s r t
     pub bounded : (s : S) → m.is_finite s ↔ ((n : ℕ) × m.bound s n)
     pub traced : (s : S) (trace : List (Answered A E)) (t : S) → Run m.steps s trace t ↔ m.traces s trace t
+    pub hold : HintsHold m.steps m.hints m.sound
 
 -- the contract of a type whose values are seen as those of another
 abbrev pub seen_as : {S P A E : Type 0} → (S → P) → Contract P A E → Contract S A E
@@ -113,6 +117,7 @@ seen_as view m = record {
   hints = λ s h. m.hints (view s) h;
   lenders = λ s. m.lenders (view s);
   traces = λ s trace t. Run (λ u r v. m.steps (view u) r (view v)) s trace t;
+  sound = as_source view m.sound;
 }
 
 -- Each value of P is seen of just one value of S.
@@ -138,6 +143,7 @@ counted_contract steps left = record {
   hints = λ _ h. h ≡ (0, None);
   lenders = λ _. no_lenders;
   traces = λ s trace t. Run steps s trace t;
+  sound = own_sound steps;
 }
 
 -- The contract of a type that says how it steps, and nothing else: it has a bound only where its runs do.
@@ -153,4 +159,5 @@ unbounded_contract steps = record {
   hints = λ _ h. h ≡ (0, None);
   lenders = λ _. no_lenders;
   traces = λ s trace t. Run steps s trace t;
+  sound = own_sound steps;
 }

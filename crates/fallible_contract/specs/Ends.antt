@@ -1,6 +1,7 @@
 -- The second end of a fallible iterator.
 use Rattle.std.specs.Prelude.{⊤, List}
 use Rattle.fallible_contract.specs.Traces.{Answered, Run}
+use Rattle.fallible_contract.specs.Sound.{SoundWhere, own_sound, as_source}
 use Rattle.fallible_contract.specs.Contract.{Contract, Lawful}
 
 -- What the contract of a type with two ends says besides. A bound, hints and names are those of the first end, and hold whichever end is drawn from.
@@ -15,6 +16,8 @@ pub record Ends (S A E : Type 0) : Type 1 where
   pub may_fail : S → E → Type 0
   -- the definition of what it returns from the back
   pub traces : S → List (Answered A E) → S → Type 0
+  -- of which values a bound that a hint may have is sound of draws from the back
+  pub sound : SoundWhere S
 
 module _ {S A E : Type 0} (m : Contract S A E) (e : Ends S A E) where
   -- the contract of draws from the front, where draws from the back are made as well
@@ -23,11 +26,11 @@ module _ {S A E : Type 0} (m : Contract S A E) (e : Ends S A E) where
 
   -- the contract of draws from the back
   abbrev pub from_back : Contract S A E
-  from_back = record m { can_next = e.can_next; steps = e.steps; may_give = e.may_give; may_fail = e.may_fail; traces = e.traces }
+  from_back = record m { can_next = e.can_next; steps = e.steps; may_give = e.may_give; may_fail = e.may_fail; traces = e.traces; sound = e.sound }
 
 -- the second end whose draws are those of a contract
 abbrev pub ends_of : {S A E : Type 0} → Contract S A E → Ends S A E
-ends_of m = record { can_next = m.can_next; steps = m.steps; may_give = m.may_give; may_fail = m.may_fail; traces = m.traces }
+ends_of m = record { can_next = m.can_next; steps = m.steps; may_give = m.may_give; may_fail = m.may_fail; traces = m.traces; sound = m.sound }
 
 -- the second end of a type whose values are seen as those of another
 abbrev pub ends_seen_as : {S P A E : Type 0} → (S → P) → Ends P A E → Ends S A E
@@ -37,6 +40,7 @@ ends_seen_as view e = record {
   may_give = λ s x. e.may_give (view s) x;
   may_fail = λ s x. e.may_fail (view s) x;
   traces = λ s trace t. Run (λ u r v. e.steps (view u) r (view v)) s trace t;
+  sound = as_source view e.sound;
 }
 
 -- the second end of a struct by its parts
@@ -59,4 +63,5 @@ counted_ends steps = record {
   may_give = λ _ _. ⊤;
   may_fail = λ _ _. ⊤;
   traces = λ s trace t. Run steps s trace t;
+  sound = own_sound steps;
 }

@@ -2,6 +2,7 @@
 use Rattle.std.specs.Prelude.{◌≡◌, ◌≤◌, List, [], ◌∷◌, map, Result, None, Ok, Err, ⊤}
 use Rattle.std.specs.Iterator.{IsFinite, size}
 use Rattle.fallible_contract.specs.Traces.{Answered}
+use Rattle.fallible_contract.specs.Sound.{own_sound}
 use Rattle.fallible_contract.specs.Contract.{Contract}
 use Rattle.fallible_contract.specs.Closures.{IsCallable, MayAnswer}
 use Rattle.fallible_contract.specs.Exchange.{exchanged, steps_exchanged, traces_exchanged}
@@ -40,6 +41,7 @@ failing_contract m call takes = record {
   hints = λ p h. m.hints p.0 h;
   lenders = λ p. m.lenders p.0;
   traces = replaces_all m.traces call;
+  sound = own_sound (λ p r q. FailingTrace m.steps call p (r ∷ []) q);
 }
 
 -- What an adapter that replaces failures makes of one answer of its source, or of the result of a call on its source: a failure becomes what the closure returns for it; all else passes, without a call.
@@ -73,6 +75,7 @@ exchanged_contract m = record {
   hints = λ s h. m.hints s h;
   lenders = λ s. m.lenders s;
   traces = traces_exchanged m.traces;
+  sound = own_sound (steps_exchanged m.steps);
 }
 
 -- an outcome with item and failure exchanged

@@ -11,4 +11,5 @@ pub mod LawForm
 pub mod Own
 pub mod Passing
 pub mod Showing
+pub mod Sound
 pub mod WithSteps

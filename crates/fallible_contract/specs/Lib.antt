@@ -25,5 +25,6 @@ pub mod Refusals
 pub mod Searching
 pub mod Showing
 pub mod ShownTraces
+pub mod Sound
 pub mod Traces
 pub mod WithSteps

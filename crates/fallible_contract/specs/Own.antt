@@ -2,6 +2,7 @@
 use Rattle.std.specs.Prelude.{◌≡◌, ℕ, ◌+◌, ◌<◌, ◌≤◌, Some, None, Ok, Err, ⊤, List, [], ◌∷◌}
 use Rattle.std.specs.Iterator.{at_most, endless}
 use Rattle.fallible_contract.specs.Traces.{Answered, Run, item, failure, items_in}
+use Rattle.fallible_contract.specs.Sound.{own_sound}
 use Rattle.fallible_contract.specs.Contract.{Contract, Fewer, KeptByDraws, counted_contract, unbounded_contract}
 use Rattle.fallible_contract.specs.Passing.{IfItem}
 
@@ -25,17 +26,17 @@ LowersAtAnswer (Err e) before after = after < before
 
 -- As m, and at most so many items are left as the number says, which each item lowers.
 abbrev pub bounded_by : {S A E : Type 0} → (S → ℕ) → Contract S A E → Contract S A E
-bounded_by left m = record m { steps = λ s r t. m.steps s r t × LowersAtItem r (left s) (left t); bound = λ s n. left s ≤ n; is_finite = λ _. ⊤; traces = λ s trace t. Run (λ u r v. m.steps u r v × LowersAtItem r (left u) (left v)) s trace t }
+bounded_by left m = record m { steps = λ s r t. m.steps s r t × LowersAtItem r (left s) (left t); bound = λ s n. left s ≤ n; is_finite = λ _. ⊤; traces = λ s trace t. Run (λ u r v. m.steps u r v × LowersAtItem r (left u) (left v)) s trace t; sound = own_sound (λ s r t. m.steps s r t × LowersAtItem r (left s) (left t)) }
 
 -- As `bounded_by`, where the number counts failures too: each failure lowers it as well.
 abbrev pub bounded_with_failures : {S A E : Type 0} → (S → ℕ) → Contract S A E → Contract S A E
-bounded_with_failures left m = record m { steps = λ s r t. m.steps s r t × LowersAtAnswer r (left s) (left t); bound = λ s n. left s ≤ n; is_finite = λ _. ⊤; remaining = λ s. at_most (left s); traces = λ s trace t. Run (λ u r v. m.steps u r v × LowersAtAnswer r (left u) (left v)) s trace t }
+bounded_with_failures left m = record m { steps = λ s r t. m.steps s r t × LowersAtAnswer r (left s) (left t); bound = λ s n. left s ≤ n; is_finite = λ _. ⊤; remaining = λ s. at_most (left s); traces = λ s trace t. Run (λ u r v. m.steps u r v × LowersAtAnswer r (left u) (left v)) s trace t; sound = own_sound (λ s r t. m.steps s r t × LowersAtAnswer r (left s) (left t)) }
 
 -- ---- a source that says which items come
 
 -- As m, and P holds of each item.
 abbrev pub giving : {S A E : Type 0} → (A → Type 0) → Contract S A E → Contract S A E
-giving P m = record m { steps = λ s r t. m.steps s r t × IfItem P r; may_give = λ s x. m.may_give s x × P x; traces = λ s trace t. Run (λ u r v. m.steps u r v × IfItem P r) s trace t }
+giving P m = record m { steps = λ s r t. m.steps s r t × IfItem P r; may_give = λ s x. m.may_give s x × P x; traces = λ s trace t. Run (λ u r v. m.steps u r v × IfItem P r) s trace t; sound = own_sound (λ s r t. m.steps s r t × IfItem P r) }
 
 -- ---- a type of whose answers nothing is said
 
@@ -50,7 +51,7 @@ pub record DrawsOn {P A E B F : Type 0} (m : Contract P A E) (s : P) (r : Answer
 
 -- The contract of an adapter over m, over finite sources alone, of which only the source's bounds are said. Any item and any failure may come.
 abbrev pub drawing_from : {S P A E B F : Type 0} → (S → P) → Contract P A E → Contract S B F
-drawing_from view m = record {
+drawing_from {B = B} {F = F} view m = record {
   can_next = λ s. m.can_next (view s) × m.is_finite (view s);
   steps = λ s r t. DrawsOn m (view s) r (view t);
   bound = λ s n. m.bound (view s) n;
@@ -61,6 +62,7 @@ drawing_from view m = record {
   hints = λ _ h. h ≡ (0, None);
   lenders = λ s. m.lenders (view s);
   traces = λ s trace t. Run (λ u r v. DrawsOn m (view u) r (view v)) s trace t;
+  sound = own_sound {A = B} {E = F} (λ s r t. DrawsOn m (view s) r (view t));
 }
 
 -- ---- an adapter that takes several items for an answer
@@ -116,4 +118,5 @@ gathering view made m = record {
   hints = λ _ h. h ≡ (0, None);
   lenders = λ s. m.lenders (view s);
   traces = λ s trace t. Run (λ u r v. Gathers m.steps made (view u) r (view v)) s trace t;
+  sound = own_sound (λ s r t. Gathers m.steps made (view s) r (view t));
 }

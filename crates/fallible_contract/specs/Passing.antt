@@ -2,6 +2,7 @@
 use Rattle.std.specs.Prelude.{◌≡◌, ℕ, Option, Result, Some, Ok, Err, List, [], ◌∷◌, map, None, is_some, IsSome, Bool, true, false, ⊤, ◌⊎◌}
 use Rattle.std.specs.List.{filter_map}
 use Rattle.fallible_contract.specs.Traces.{first_of, LastKept, Answered, Run, item, failure, end}
+use Rattle.fallible_contract.specs.Sound.{own_sound}
 use Rattle.fallible_contract.specs.Contract.{Contract}
 use Rattle.fallible_contract.specs.Closures.{Calls, MayAnswer}
 use Rattle.fallible_contract.specs.declared.passing.Outcome.{Outcome}
@@ -68,6 +69,7 @@ passing_contract m call callable outcome hints = record {
   hints = hints;
   lenders = λ p. m.lenders p.0;
   traces = passes_all m.traces call outcome;
+  sound = own_sound (λ p r q. PassTrace m.steps call outcome p (r ∷ []) q);
 }
 
 -- The contract of one that leaves items out. Its condition: one of the source, and a bound of it, since one draw may leave many items out.

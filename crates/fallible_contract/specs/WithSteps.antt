@@ -1,6 +1,7 @@
 -- Adapters that step and hint in their own way, and of which all else is said as of their source.
 use Rattle.std.specs.Prelude.{ℕ, Option}
 use Rattle.fallible_contract.specs.Traces.{Answered, Run}
+use Rattle.fallible_contract.specs.Sound.{own_sound}
 use Rattle.fallible_contract.specs.Contract.{Contract}
 
 -- the contract of an adapter that steps and hints in its own way, and of which all else is said as of its source
@@ -16,4 +17,5 @@ with_steps_contract m steps hints = record {
   hints = hints;
   lenders = λ p. m.lenders p.0;
   traces = λ p trace q. Run steps p trace q;
+  sound = own_sound steps;
 }

@@ -2,6 +2,7 @@
 pub mod Borrowed
 pub mod Cutting
 pub mod Filtering
+pub mod Hints
 pub mod Joining
 pub mod OneToOne
 pub mod Peeking

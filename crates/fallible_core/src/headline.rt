@@ -1,6 +1,7 @@
 //! The headline: one law of every source and every nest of adapters.
-ghost use Rattle.std.specs.Prelude.{Result, Option, List, ◌↔◌};
+ghost use Rattle.std.specs.Prelude.{ℕ, Option, Result, List, ◌↔◌};
 ghost use Rattle.fallible_contract.specs.Traces.{Answered, Run};
+ghost use Rattle.fallible_contract.specs.Sound.{BoundsAbove, BoundsBelow};
 
 use crate::traits::FallibleIterator;
 use crate::traits::double_ended::DoubleEndedFallibleIterator;
@@ -15,4 +16,20 @@ pub fn law_headline<I: FallibleIterator>()
 pub fn law_headline_back<I: DoubleEndedFallibleIterator>()
     ensures { (s : I) (trace : List (Answered I.Item I.Error)) (t : I)
         → Run I.ends.steps s trace t ↔ I.ends.traces s trace t }
+{}
+
+/// For every source and every nest of adapters: where its type says so, the upper bound of each hint is at least the number of items of each run, and the lower bound at most that of each run that ends. Where that is, the `sound` of its contract says, of where it is so of the types that it is made of. That of a type that states none, as your own need not, says just that they are.
+pub fn law_hints<I: FallibleIterator>()
+    ensures above { (s : I) (h : ℕ × Option ℕ) → I.contract.hints s h → I.contract.sound.above s h.1
+        → BoundsAbove I.contract.steps s h.1 }
+    ensures below { (s : I) (h : ℕ × Option ℕ) → I.contract.hints s h → I.contract.sound.below s h.0
+        → BoundsBelow I.contract.steps s h.0 }
+{}
+
+/// The same of calls of `next_back`.
+pub fn law_hints_back<I: DoubleEndedFallibleIterator>()
+    ensures above { (s : I) (h : ℕ × Option ℕ) → I.contract.hints s h → I.ends.sound.above s h.1
+        → BoundsAbove I.ends.steps s h.1 }
+    ensures below { (s : I) (h : ℕ × Option ℕ) → I.contract.hints s h → I.ends.sound.below s h.0
+        → BoundsBelow I.ends.steps s h.0 }
 {}

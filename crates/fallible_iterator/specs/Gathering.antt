@@ -1,6 +1,7 @@
 -- The contract of an adapter that makes each answer of several draws, as a part of its own says.
 use Rattle.std.specs.Prelude.{◌≡◌, List}
 use Rattle.fallible_contract.specs.Traces.{Answered, Run, failure, item}
+use Rattle.fallible_contract.specs.Sound.{own_sound}
 use Rattle.fallible_contract.specs.Contract.{Contract}
 use Rattle.fallible_contract.specs.Own.{Gathers, MadeOfComing, gathering}
 
@@ -17,4 +18,5 @@ gathering_by view key made m = record {
   hints = λ s h. (gathering view (made (key s)) m).hints s h;
   lenders = λ s. m.lenders (view s);
   traces = λ s trace t. Run (λ u r v. Gathers m.steps (made (key u)) (view u) r (view v) × (key v ≡ key u)) s trace t;
+  sound = own_sound (λ s r t. Gathers m.steps (made (key s)) (view s) r (view t) × (key t ≡ key s));
 }

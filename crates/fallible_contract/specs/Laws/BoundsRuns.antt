@@ -2,6 +2,7 @@
 use Rattle.std.specs.Prelude.{ℕ, ◌-◌, ◌≤◌, ◌<◌, [], ◌∷◌, Some, None, Ok, Err}
 use Rattle.std.proofs.Common.{refl, arith}
 use Rattle.fallible_contract.specs.Traces.{Answered, item}
+use Rattle.fallible_contract.specs.Laws.Sound.{own_hold}
 use Rattle.fallible_contract.specs.Contract.{Contract, OnAnswer, Lawful, BoundsRuns, unbounded_contract}
 use Rattle.fallible_contract.specs.Laws.Contract.{no_more_after}
 
@@ -43,4 +44,5 @@ module _ {S A E : Type 0} (steps : S → Answered A E → S → Type 0) where
     };
     bounded = λ s. ((λ e. e), (λ p. p));
     traced = λ _ _ _. ((λ h. h), (λ h. h));
+    hold = own_hold;
   }

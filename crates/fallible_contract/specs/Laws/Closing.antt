@@ -2,6 +2,7 @@
 use Rattle.std.specs.Prelude.{Bool, true, false}
 use Rattle.std.proofs.Common.{arith, refl}
 use Rattle.fallible_contract.specs.Traces.{Answered, end}
+use Rattle.fallible_contract.specs.Laws.Sound.{own_hold}
 use Rattle.fallible_contract.specs.Contract.{Contract, KeptByDraw, Lawful}
 use Rattle.fallible_contract.specs.Closing.{closing_contract}
 use Rattle.fallible_contract.specs.Laws.WithSteps.{kept_by_draw_with_steps}
@@ -18,4 +19,4 @@ module _ {P Q B E : Type 0} (m : Contract P B E) (draws : P → Q → P → Type
   kept_by_draw_closing goes (p, false) r (q, c) can step = rw step.2 (kept_by_draw_with_steps (p, false) (answer step.0) (q, c) (goes p step.0 q can step.1))
 
 pub lawful_closing : {P Q B E : Type 0} {m : Contract P B E} (draws : P → Q → P → Type 0) (answer : Q → Answered B E) (closes : Q → Bool) → ((p : P) (x : Q) (q : P) → m.can_next p → draws p x q → KeptByDraw m p (answer x) q) → Lawful m → Lawful (closing_contract m draws answer closes)
-lawful_closing {m = m} draws answer closes goes l = record { kept_by_draw = kept_by_draw_closing m draws answer closes goes; bounded = λ p. l.bounded p.0; traced = λ _ _ _. ((λ h. h), (λ h. h)) }
+lawful_closing {m = m} draws answer closes goes l = record { kept_by_draw = kept_by_draw_closing m draws answer closes goes; bounded = λ p. l.bounded p.0; traced = λ _ _ _. ((λ h. h), (λ h. h)); hold = own_hold }

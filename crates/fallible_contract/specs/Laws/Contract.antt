@@ -3,6 +3,8 @@ use Rattle.std.specs.Prelude.{◌↔◌, List, [], ◌∷◌, Some, None, Ok, Er
 use Rattle.std.proofs.Common.{arith, subst, refl, ◌∙◌}
 use Rattle.fallible_contract.specs.Traces.{Answered, Run}
 use Rattle.fallible_contract.specs.Contract.{Contract, NoMore, NoMoreRemains, OnAnswer, KeptByDraw, KeptByDraws, NeverFails, Stays, Lawful, Inverse, seen_as, parts_as}
+use Rattle.fallible_contract.specs.Sound.{SoundWhere, HintsHold}
+use Rattle.fallible_contract.specs.Laws.Sound.{hold_seen}
 use Rattle.fallible_contract.specs.Laws.LawForm.{IsTraced, traces_are_of_parts}
 
 module _ {S A E : Type 0} (m : Contract S A E) where
@@ -91,6 +93,7 @@ lawful_with_traces {S} {A} {E} {m = m} traces law l = record {
   kept_by_draw = λ s r t c step. kept s t r (l.kept_by_draw s r t c step);
   bounded = l.bounded;
   traced = law;
+  hold = l.hold;
 }
   where
     on_answer : (s t : S) (r : Answered A E) → OnAnswer m s r t → OnAnswer (record m { traces = traces }) s r t
@@ -99,6 +102,23 @@ lawful_with_traces {S} {A} {E} {m = m} traces law l = record {
     on_answer s t (Err e) h = h
 
     kept : (s t : S) (r : Answered A E) → KeptByDraw m s r t → KeptByDraw (record m { traces = traces }) s r t
+    kept s t r g = record { can_next = g.can_next; is_finite = g.is_finite; answer = on_answer s t r g.answer; may_give = g.may_give; may_fail = g.may_fail; lenders = g.lenders }
+
+-- with any word on where its hints are sound, if they are there
+pub lawful_with_sound : {S A E : Type 0} {m : Contract S A E} {w : SoundWhere S} → HintsHold m.steps m.hints w → Lawful m → Lawful (record m { sound = w })
+lawful_with_sound {S} {A} {E} {m = m} {w = w} holds l = record {
+  kept_by_draw = λ s r t c step. kept s t r (l.kept_by_draw s r t c step);
+  bounded = l.bounded;
+  traced = l.traced;
+  hold = holds;
+}
+  where
+    on_answer : (s t : S) (r : Answered A E) → OnAnswer m s r t → OnAnswer (record m { sound = w }) s r t
+    on_answer s t (Ok (Some x)) h = h
+    on_answer s t (Ok None) h = h
+    on_answer s t (Err e) h = h
+
+    kept : (s t : S) (r : Answered A E) → KeptByDraw m s r t → KeptByDraw (record m { sound = w }) s r t
     kept s t r g = record { can_next = g.can_next; is_finite = g.is_finite; answer = on_answer s t r g.answer; may_give = g.may_give; may_fail = g.may_fail; lenders = g.lenders }
 
 -- ---- a type whose values are seen as those of another
@@ -117,7 +137,7 @@ module _ {S P A E : Type 0} (m : Contract P A E) (view : S → P) (traces : S �
   kept_by_draw_through_view s t r g = record { can_next = g.can_next; is_finite = g.is_finite; answer = on_answer_seen s t r g.answer; may_give = g.may_give; may_fail = g.may_fail; lenders = g.lenders }
 
   lawful_view : ((s : S) (trace : List (Answered A E)) (t : S) → Run Seen.steps s trace t ↔ traces s trace t) → Lawful m → Lawful Seen
-  lawful_view law l = record { kept_by_draw = λ s r t c step. kept_by_draw_through_view s t r (l.kept_by_draw (view s) r (view t) c step); bounded = λ s. l.bounded (view s); traced = law }
+  lawful_view law l = record { kept_by_draw = λ s r t c step. kept_by_draw_through_view s t r (l.kept_by_draw (view s) r (view t) c step); bounded = λ s. l.bounded (view s); traced = law; hold = hold_seen view l.hold }
 
 pub lawful_seen : {S P A E : Type 0} {m : Contract P A E} (view : S → P) → Lawful m → Lawful (seen_as view m)
 lawful_seen {m = m} view l = lawful_view m view _ (λ _ _ _. ((λ h. h), (λ h. h))) l

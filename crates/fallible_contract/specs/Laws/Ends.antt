@@ -4,7 +4,8 @@ use Rattle.std.proofs.Common.{inl, inr}
 use Rattle.fallible_contract.specs.Contract.{Inverse, Contract, Lawful, seen_as, parts_as}
 use Rattle.fallible_contract.specs.Ends.{Ends, from_front, from_back, ends_of, ends_seen_as, ends_parts_as, LawfulEnds}
 use Rattle.fallible_contract.specs.Passing.{passing_contract, leaving_out_contract}
-use Rattle.fallible_contract.specs.Laws.Contract.{lawful_seen, lawful_parts}
+use Rattle.fallible_contract.specs.Sound.{SoundWhere, HintsHold}
+use Rattle.fallible_contract.specs.Laws.Contract.{lawful_seen, lawful_parts, lawful_with_sound}
 use Rattle.fallible_contract.specs.Laws.Closures.{reaches_reflexive, may_answer_where_reached_may_answer}
 use Rattle.fallible_contract.specs.Laws.Passing.{StaysCallable, lawful_passing, lawful_leaving_out}
 use Rattle.fallible_contract.specs.declared.passing.Outcome.{Outcome}
@@ -37,6 +38,16 @@ lawful_ends_alike l = record {
   may_fail = λ s x h. h;
   front = l;
   back = l;
+}
+
+-- with any words on where hints are sound from each end, if they are there
+pub lawful_ends_with_sound : {S A E : Type 0} {m : Contract S A E} {e : Ends S A E} {w v : SoundWhere S} → HintsHold m.steps m.hints w → HintsHold e.steps m.hints v → LawfulEnds m e → LawfulEnds (record m { sound = w }) (record e { sound = v })
+lawful_ends_with_sound holds back l = record {
+  front_can = l.front_can;
+  may_give = l.may_give;
+  may_fail = l.may_fail;
+  front = lawful_with_sound holds l.front;
+  back = lawful_with_sound back l.back;
 }
 
 -- the ends swapped

@@ -3,6 +3,7 @@ use Rattle.std.specs.Prelude.{◌≡◌, List, [], ◌∷◌, map, Some, None, O
 use Rattle.std.proofs.Common.{refl, sym, ap, subst, arith, inl, inr}
 use Rattle.std.specs.Iterator.{IsFinite, size}
 use Rattle.fallible_contract.specs.Traces.{Answered}
+use Rattle.fallible_contract.specs.Laws.Sound.{own_hold}
 use Rattle.fallible_contract.specs.Contract.{Contract, OnAnswer, KeptByDraw, Lawful}
 use Rattle.fallible_contract.specs.Closures.{Reaches, IsCallable}
 use Rattle.fallible_contract.specs.Ends.{Ends, from_back, ends_of, LawfulEnds}
@@ -58,7 +59,7 @@ pub failing_traced : {S F X D E : Type 0} {steps : S → Answered X D → S → 
 failing_traced {steps = steps} law call p trace q = iff_of_two (run_at_one_answer_iff_law _ (failing_by_answers steps call) p trace q) (passes_over_all (exchanged_traced law) call failing_outcome p (map exchanged trace) q)
 
 pub lawful_failing : {S F X D E : Type 0} {m : Contract S X D} (call : F → D → E → F → Type 0) (takes : F → D → Type 0) → Lawful m → Lawful (failing_contract m call takes)
-lawful_failing {m = m} call takes l = record { kept_by_draw = kept_by_draw_failing m l call takes; bounded = λ p. l.bounded p.0; traced = failing_traced l.traced call }
+lawful_failing {m = m} call takes l = record { kept_by_draw = kept_by_draw_failing m l call takes; bounded = λ p. l.bounded p.0; traced = failing_traced l.traced call; hold = own_hold }
 
 pub lawful_ends_failing : {S F X D E : Type 0} {m : Contract S X D} {e : Ends S X D} (call : F → D → E → F → Type 0) (takes : F → D → Type 0) → LawfulEnds m e → LawfulEnds (failing_contract m call takes) (ends_of (failing_contract (from_back m e) call takes))
 lawful_ends_failing call takes l = record {
@@ -90,6 +91,7 @@ lawful_exchanged {m = m} l = record {
   kept_by_draw = λ s r t c step. kept_by_draw_exchanged m s t r (l.kept_by_draw s (exchanged r) t c step);
   bounded = λ s. ((λ f. (size (m.remaining s), (f.0, f.1, omega arith))), (λ b. (b.1.0, b.1.1)));
   traced = exchanged_traced l.traced;
+  hold = own_hold;
 }
 
 -- ---- where a failure may become an item

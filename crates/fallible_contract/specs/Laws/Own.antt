@@ -3,6 +3,8 @@ use Rattle.std.specs.Prelude.{ℕ, ◌+◌, ◌≤◌, Some, None, Ok, Err, ⊤,
 use Rattle.std.specs.Iterator.{Count, IsFinite, size, at_most}
 use Rattle.std.proofs.Common.{arith, subst}
 use Rattle.fallible_contract.specs.Traces.{Answered, Run, item, items_in}
+use Rattle.fallible_contract.specs.Sound.{own_sound}
+use Rattle.fallible_contract.specs.Laws.Sound.{own_hold}
 use Rattle.fallible_contract.specs.Contract.{Contract, Fewer, OnAnswer, KeptByDraw, KeptByDraws, Lawful, Stays}
 use Rattle.fallible_contract.specs.Lists.{AlwaysGives, Lists}
 use Rattle.fallible_contract.specs.Passing.{IfItem}
@@ -22,7 +24,7 @@ module _ {S A E : Type 0} (steps more : S → Answered A E → S → Type 0) whe
 module _ {S A E : Type 0} (m : Contract S A E) (left : S → ℕ) (lowers : Answered A E → ℕ → ℕ → Type 0) (remains : S → Count) where
   -- `bounded_by` and `bounded_with_failures`
   abbrev BoundedHere : Contract S A E
-  BoundedHere = record m { steps = λ s r t. m.steps s r t × lowers r (left s) (left t); bound = λ s n. left s ≤ n; is_finite = λ _. ⊤; remaining = remains; traces = λ s trace t. Run (λ u r v. m.steps u r v × lowers r (left u) (left v)) s trace t }
+  BoundedHere = record m { steps = λ s r t. m.steps s r t × lowers r (left s) (left t); bound = λ s n. left s ≤ n; is_finite = λ _. ⊤; remaining = remains; traces = λ s trace t. Run (λ u r v. m.steps u r v × lowers r (left u) (left v)) s trace t; sound = own_sound (λ s r t. m.steps s r t × lowers r (left s) (left t)) }
 
   kept_by_draw_bounded : (s t : S) (r : Answered A E) → KeptByDraw m s r t → OnAnswer BoundedHere s r t → KeptByDraw BoundedHere s r t
   kept_by_draw_bounded s t r g answer = record {
@@ -39,6 +41,7 @@ module _ {S A E : Type 0} (m : Contract S A E) (left : S → ℕ) (lowers : Answ
     kept_by_draw = λ s r t c step. let g = l.kept_by_draw s r t c step.0 in kept_by_draw_bounded s t r g (answers s t r step.1 g.answer);
     bounded = λ s. ((λ f. (left s, omega arith)), (λ n. tt));
     traced = λ _ _ _. ((λ h. h), (λ h. h));
+    hold = own_hold;
   }
 
 module _ {S A E : Type 0} (m : Contract S A E) (left : S → ℕ) where
@@ -84,7 +87,7 @@ module _ {S A E : Type 0} (m : Contract S A E) (P : A → Type 0) where
   }
 
 pub lawful_giving : {S A E : Type 0} {m : Contract S A E} (P : A → Type 0) → Lawful m → Lawful (giving P m)
-lawful_giving {m = m} P l = record { kept_by_draw = λ s r t c step. kept_by_draw_giving m P s t r step.1 (l.kept_by_draw s r t c step.0); bounded = l.bounded; traced = λ _ _ _. ((λ h. h), (λ h. h)) }
+lawful_giving {m = m} P l = record { kept_by_draw = λ s r t c step. kept_by_draw_giving m P s t r step.1 (l.kept_by_draw s r t c step.0); bounded = l.bounded; traced = λ _ _ _. ((λ h. h), (λ h. h)); hold = own_hold }
 
 -- m, with what is known of its items besides, lists what m does
 pub lists_giving : {S A E : Type 0} (m : Contract S A E) {s : S} {l : List (Result A E)} (P : A → Type 0) → Lists m.steps s l → Lists (giving P m).steps s l
@@ -104,6 +107,7 @@ lawful_drawing can = let l = lawful_unbounded (λ s r t. can t) in record {
   };
   bounded = l.bounded;
   traced = λ _ _ _. ((λ h. h), (λ h. h));
+    hold = own_hold;
 }
 
 module _ {S P A E B F : Type 0} (view : S → P) (m : Contract P A E) where
@@ -123,7 +127,7 @@ module _ {S P A E B F : Type 0} (view : S → P) (m : Contract P A E) where
   }
 
 pub lawful_drawing_from : {S P A E B F : Type 0} {m : Contract P A E} (view : S → P) → Lawful m → Lawful (drawing_from {B = B} {F = F} view m)
-lawful_drawing_from {m = m} view l = record { kept_by_draw = λ s r t c h. kept_by_draw_drawn_from view m s t r c.1 h; bounded = λ s. l.bounded (view s); traced = λ _ _ _. ((λ h. h), (λ h. h)) }
+lawful_drawing_from {m = m} view l = record { kept_by_draw = λ s r t c h. kept_by_draw_drawn_from view m s t r c.1 h; bounded = λ s. l.bounded (view s); traced = λ _ _ _. ((λ h. h), (λ h. h)); hold = own_hold }
 
 module _ {P A E B F : Type 0} {m : Contract P A E} where
   draws_on_of_fewer : {s t : P} (r : Answered B F) → KeptByDraws m s t → Fewer m s t → DrawsOn m s r t
@@ -217,4 +221,4 @@ module _ {S P A E B F : Type 0} (view : S → P) (made : List (Answered A E) →
   }
 
 pub lawful_gathering : {S P A E B F : Type 0} {m : Contract P A E} (view : S → P) (made : List (Answered A E) → Answered B F → Type 0) → Lawful m → Lawful (gathering view made m)
-lawful_gathering {m = m} view made l = record { kept_by_draw = λ s r t c h. kept_by_draw_gathered view made m l s t r c h; bounded = λ s. l.bounded (view s); traced = λ _ _ _. ((λ h. h), (λ h. h)) }
+lawful_gathering {m = m} view made l = record { kept_by_draw = λ s r t c h. kept_by_draw_gathered view made m l s t r c h; bounded = λ s. l.bounded (view s); traced = λ _ _ _. ((λ h. h), (λ h. h)); hold = own_hold }

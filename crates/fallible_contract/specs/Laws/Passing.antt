@@ -3,6 +3,7 @@ use Rattle.std.specs.Prelude.{ℕ, Option, Some, None, Ok, Err, ◌≡◌, List,
 use Rattle.std.specs.List.{filter_map, cons_option}
 use Rattle.std.proofs.Common.{refl, sym, ap, subst, arith, inl, inr}
 use Rattle.fallible_contract.specs.Traces.{LastKept, Answered, Run, first_of, item}
+use Rattle.fallible_contract.specs.Laws.Sound.{own_hold}
 use Rattle.fallible_contract.specs.Contract.{Contract, OnAnswer, KeptByDraw, KeptByDraws, Lawful}
 use Rattle.fallible_contract.specs.Passing.{PassTrace, passes_all, passing_contract, leaving_out_contract, Place, asked, failure_at, end_at, source_answer, call_of, outcome_answer, answer_at, has_answer}
 use Rattle.fallible_contract.specs.Closures.{Calls, Reaches}
@@ -192,7 +193,7 @@ module _ {S F X R B E : Type 0} (m : Contract S X E) (l : Lawful m) (call : F �
 
 -- the contract is lawful if the closure stays callable after calls on what comes
 pub lawful_passing : {S F X R B E : Type 0} {m : Contract S X E} (call : F → X → R → F → Type 0) (callable : (X → Type 0) → F → Type 0) (outcome : X → R → Outcome B E) (hints : S × F → ℕ × Option ℕ → Type 0) → StaysCallable call callable → Lawful m → Lawful (passing_contract m call callable outcome hints)
-lawful_passing {m} call callable outcome hints after l = record { kept_by_draw = kept_by_draw_passing m l call outcome callable hints after; bounded = λ p. l.bounded p.0; traced = passing_traced l.traced call outcome }
+lawful_passing {m} call callable outcome hints after l = record { kept_by_draw = kept_by_draw_passing m l call outcome callable hints after; bounded = λ p. l.bounded p.0; traced = passing_traced l.traced call outcome; hold = own_hold }
 
 -- a bound of the source, required besides, stays
 module _ {S F A E : Type 0} (p : Contract (S × F) A E) (needs : S → Type 0) where
@@ -210,7 +211,7 @@ module _ {S F A E : Type 0} (p : Contract (S × F) A E) (needs : S → Type 0) w
 pub lawful_leaving_out : {S F X R B E : Type 0} {m : Contract S X E} (call : F → X → R → F → Type 0) (callable : (X → Type 0) → F → Type 0) (outcome : X → R → Outcome B E) (hints : S × F → ℕ × Option ℕ → Type 0) → StaysCallable call callable → Lawful m → Lawful (leaving_out_contract m call callable outcome hints)
 lawful_leaving_out {m = m} call callable outcome hints after l = let p = passing_contract m call callable outcome hints in
     let k : Lawful p = lawful_passing call callable outcome hints after l in
-    record { kept_by_draw = λ s r t c step. let a = k.kept_by_draw s r t c.1 step in kept_by_draw_needing p m.is_finite s t r (a.is_finite c.0) a; bounded = λ s. l.bounded s.0; traced = k.traced }
+    record { kept_by_draw = λ s r t c step. let a = k.kept_by_draw s r t c.1 step in kept_by_draw_needing p m.is_finite s t r (a.is_finite c.0) a; bounded = λ s. l.bounded s.0; traced = k.traced; hold = k.hold }
 
 -- ---- one answer
 

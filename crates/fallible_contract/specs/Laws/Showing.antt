@@ -2,6 +2,7 @@
 use Rattle.std.specs.Prelude.{◌≡◌, length, Result, Some, None, Ok, Err, List, [], ◌∷◌}
 use Rattle.std.proofs.Common.{refl, sym, ap, subst, ◌∙◌, arith}
 use Rattle.fallible_contract.specs.Traces.{Answered}
+use Rattle.fallible_contract.specs.Laws.Sound.{own_hold}
 use Rattle.fallible_contract.specs.Contract.{OnAnswer, Lawful, NeverFails}
 use Rattle.fallible_contract.specs.Lists.{AlwaysGives, Lists, items}
 use Rattle.fallible_contract.specs.Showing.{TakesShown, listing}
@@ -50,6 +51,7 @@ module _ {S A E : Type 0} (shows : S → List (Result A E)) where
     };
     bounded = λ s. ((λ f. (length (shows s), omega arith)), (λ n. tt));
     traced = λ _ _ _. ((λ h. h), (λ h. h));
+    hold = own_hold;
   }
 
 module _ {S A E : Type 0} (shows : S → List (Result A E)) where

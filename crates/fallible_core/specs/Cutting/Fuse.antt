@@ -1,7 +1,8 @@
 -- `Fuse`, which is exhausted at the first end.
 use Rattle.std.proofs.Common.{refl}
-use Rattle.std.specs.Prelude.{List, Bool}
+use Rattle.std.specs.Prelude.{◌≡◌, List, Bool, true}
 use Rattle.fallible_contract.specs.Traces.{Answered, Run, is_end}
+use Rattle.fallible_contract.specs.Sound.{as_source, sound_once}
 use Rattle.fallible_contract.specs.Contract.{Inverse, Contract}
 use Rattle.fallible_contract.specs.Closing.{ClosingTrace, closing_contract}
 use Rattle.fallible_core.specs.declared.cutting.fuse.Fuse.{Fuse}
@@ -18,7 +19,7 @@ fuses_all {A = A} {E = E} traces p trace q = (drawn : List (Answered A E)) × tr
 
 -- `Fuse`'s contract: that of its source but for the step and the hint, which the source's end closes.
 abbrev pub fuse_contract : {S A E : Type 0} → Contract S A E → Contract (S × Bool) A E
-fuse_contract m = record (closing_contract m m.steps (λ r. r) is_end) { traces = fuses_all m.traces }
+fuse_contract m = record (closing_contract m m.steps (λ r. r) is_end) { traces = fuses_all m.traces; sound = sound_once (λ p. p.1 ≡ true) (as_source (λ p. p.0) m.sound) }
 
 -- the source
 abbrev pub fuse_source : {I : Type 0} → Fuse I → I

@@ -4,6 +4,7 @@ use Rattle.std.specs.Prelude.{◌≡◌, Result, Ok, Err, List, Bool, true, fals
 use Rattle.std.specs.Fn.{Mut}
 use Rattle.std.specs.Borrow.{Bor}
 use Rattle.fallible_contract.specs.Traces.{Answered}
+use Rattle.fallible_contract.specs.Sound.{above_as_source}
 use Rattle.fallible_contract.specs.Contract.{Inverse, Contract}
 use Rattle.fallible_contract.specs.Closures.{call_by_reference, takes_by_reference, IsCallable}
 use Rattle.fallible_contract.specs.Passing.{PassTrace, leaving_out_contract}
@@ -21,7 +22,7 @@ FilterTrace steps g p trace q = PassTrace steps (call_by_reference g) tested_out
 
 -- `Filter`'s contract: its hint has the source's upper bound alone.
 abbrev pub filter_contract : {S F X E : Type 0} → Contract S X E → Mut F (Bor X × Unit {0}) (Result Bool E) → Contract (S × F) X E
-filter_contract m g = leaving_out_contract m (call_by_reference g) (λ P f. IsCallable (call_by_reference g) (takes_by_reference g) P f) tested_outcome (λ p h. upper_alone m p.0 h)
+filter_contract m g = record (leaving_out_contract m (call_by_reference g) (λ P f. IsCallable (call_by_reference g) (takes_by_reference g) P f) tested_outcome (λ p h. upper_alone m p.0 h)) { sound = above_as_source (λ p. p.0) m.sound }
 
 -- the source
 abbrev pub filter_source : {I F : Type 0} → Filter I F → I

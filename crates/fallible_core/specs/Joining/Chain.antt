@@ -3,6 +3,7 @@ use Rattle.std.proofs.Common.{refl}
 use Rattle.std.specs.Prelude.{◌≡◌, ◌≢◌, ℕ, ◌+◌, ◌≤◌, false, List, [], ◌∷◌, ◌++◌, Option, ◌⊎◌, Result}
 use Rattle.std.specs.Iterator.{Count, count_add}
 use Rattle.fallible_contract.specs.Traces.{Answered, Run, first_of, end, is_end, NoEnd}
+use Rattle.fallible_contract.specs.Sound.{SoundWhere, EachAbove, EachBelow}
 use Rattle.fallible_contract.specs.Contract.{Inverse, Contract, lenders_of_both}
 use Rattle.fallible_contract.specs.Ends.{Ends}
 use Rattle.fallible_contract.specs.Hints.{hint_sum}
@@ -43,6 +44,20 @@ chain_may_come first second (s, u, Both) x = first s x ⊎ second u x
 chain_may_come first second (s, u, FirstAlone) x = first s x
 chain_may_come first second (s, u, SecondAlone) x = second u x
 
+-- wherever a hint of the sides is that are still drawn: each of both, or the one that is the one side's
+abbrev pub sides_above : {S U : Type 0} → (S → ℕ × Option ℕ → Type 0) → SoundWhere S → (U → ℕ × Option ℕ → Type 0) → SoundWhere U → S × U × StillDrawn → Option ℕ → Type 0
+sides_above hints w others v (s, u, Both) high = EachAbove hints w s × EachAbove others v u
+sides_above hints w others v (s, u, FirstAlone) high = w.above s high
+sides_above hints w others v (s, u, SecondAlone) high = v.above u high
+
+abbrev pub sides_below : {S U : Type 0} → (S → ℕ × Option ℕ → Type 0) → SoundWhere S → (U → ℕ × Option ℕ → Type 0) → SoundWhere U → S × U × StillDrawn → ℕ → Type 0
+sides_below hints w others v (s, u, Both) low = EachBelow hints w s × EachBelow others v u
+sides_below hints w others v (s, u, FirstAlone) low = w.below s low
+sides_below hints w others v (s, u, SecondAlone) low = v.below u low
+
+abbrev pub as_sides : {S U : Type 0} → (S → ℕ × Option ℕ → Type 0) → SoundWhere S → (U → ℕ × Option ℕ → Type 0) → SoundWhere U → SoundWhere (S × U × StillDrawn)
+as_sides hints w others v = record { above = sides_above hints w others v; below = sides_below hints w others v }
+
 -- All else is said by the sides that are still drawn: the sums if both are, and otherwise what the one side says.
 module _ {S U A E : Type 0} (first : Contract S A E) (second : Contract U A E) where
   abbrev pub chain_bound : S × U × StillDrawn → ℕ → Type 0
@@ -78,6 +93,7 @@ module _ {S U A E : Type 0} (first : Contract S A E) (second : Contract U A E) w
     hints = chain_hints;
     lenders = λ p. lenders_of_both (first.lenders p.0) (second.lenders p.1);
     traces = chains_all first.traces second.traces;
+    sound = as_sides first.hints first.sound second.hints second.sound;
   }
 
 -- Seen from the back, the sides are swapped.
@@ -90,13 +106,14 @@ abbrev pub chain_back : {S U : Type 0} → S × U × StillDrawn → U × S × St
 chain_back p = (p.1, p.0, sides_back p.2)
 
 -- `Chain`'s second end: a draw from the back is one of the chain seen from the back, whose sides are drawn from the back.
-abbrev pub chain_ends : {S U A E : Type 0} → Ends S A E → Ends U A E → Ends (S × U × StillDrawn) A E
-chain_ends f e = record {
+abbrev pub chain_ends : {S U A E : Type 0} → Contract S A E → Ends S A E → Contract U A E → Ends U A E → Ends (S × U × StillDrawn) A E
+chain_ends first f second e = record {
   can_next = λ p. f.can_next p.0 × e.can_next p.1;
   steps = λ p r q. chain_step e.steps f.steps (chain_back p) r (chain_back q);
   may_give = chain_may_come f.may_give e.may_give;
   may_fail = chain_may_come f.may_fail e.may_fail;
   traces = λ p trace q. chains_all e.traces f.traces (chain_back p) trace (chain_back q);
+  sound = as_sides first.hints f.sound second.hints e.sound;
 }
 
 -- the first side

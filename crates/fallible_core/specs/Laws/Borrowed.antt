@@ -6,6 +6,7 @@ use Rattle.fallible_contract.specs.Laws.LawForm.{IsTraced}
 use Rattle.std.specs.Borrow.{MutBor}
 use Rattle.std.proofs.Common.{ap₂, ap, sym, refl, subst, ◌∙◌}
 use Rattle.fallible_contract.specs.Traces.{Answered, Run}
+use Rattle.fallible_contract.specs.Laws.Sound.{hold_within}
 use Rattle.fallible_contract.specs.Contract.{Contract, OnAnswer, Lawful, lender_and}
 use Rattle.fallible_contract.specs.Ends.{Ends, from_back, ends_of, LawfulEnds}
 use Rattle.fallible_core.specs.Borrowed.{borrowed, boxed, through_reference, through_box}
@@ -58,9 +59,10 @@ module _ {S A E : Type 0} (m : Contract S A E) where
   on_answer_boxed s t (Err e) h = h
 
 pub lawful_boxed : {S A E : Type 0} {m : Contract S A E} → Lawful m → Lawful (boxed m)
-lawful_boxed {m = m} l = record {
+lawful_boxed {S = S} {m = m} l = record {
   kept_by_draw = λ s r t c step. let g = l.kept_by_draw s.value r t.value c step in record { can_next = g.can_next; is_finite = g.is_finite; answer = on_answer_boxed m s t r g.answer; may_give = g.may_give; may_fail = g.may_fail; lenders = g.lenders };
   bounded = λ s. l.bounded s.value;
+  hold = hold_within (λ (s : Box S Global). s.value) (boxed m).steps m.steps (λ u r v step. step) l.hold;
   traced = λ s trace t. (runs_in_box m.steps l.traced s trace t, runs_into_box m.steps l.traced s trace t);
 }
 
@@ -80,9 +82,10 @@ module _ {S A E : Type 0} (m : Contract S A E) where
   on_answer_borrowed s t (Err e) h = h
 
 pub lawful_borrowed : {S A E : Type 0} {m : Contract S A E} → Lawful m → Lawful (borrowed m)
-lawful_borrowed {m = m} l = record {
+lawful_borrowed {S = S} {m = m} l = record {
   kept_by_draw = λ s r t c step. let g = l.kept_by_draw s.now r t.now c step.0 in record { can_next = g.can_next; is_finite = g.is_finite; answer = on_answer_borrowed m s t r g.answer; may_give = g.may_give; may_fail = g.may_fail; lenders = ap₂ lender_and step.1 g.lenders };
   bounded = λ s. l.bounded s.now;
+  hold = hold_within (λ (s : MutBor S). s.now) (borrowed m).steps m.steps (λ u r v step. step.0) l.hold;
   traced = λ s trace t. (runs_through m.steps l.traced s trace t, runs_back m.steps l.traced s trace t);
 }
 

@@ -3,6 +3,7 @@ use Rattle.std.proofs.Common.{refl}
 use Rattle.std.specs.Prelude.{Result, Ok, Err, List, [], ◌∷◌}
 use Rattle.std.specs.Fn.{Mut}
 use Rattle.fallible_contract.specs.Traces.{Answered}
+use Rattle.fallible_contract.specs.Sound.{as_source}
 use Rattle.fallible_contract.specs.Contract.{Inverse, Contract}
 use Rattle.fallible_contract.specs.Closures.{call_by_value, takes_by_value, IsCallable}
 use Rattle.fallible_contract.specs.Passing.{PassTrace, passing_contract}
@@ -21,7 +22,7 @@ MapTrace steps g p trace q = PassTrace steps (call_by_value g) map_outcome p tra
 
 -- `Map`'s contract: the closure may be called on each item that may come, and its hint is the source's.
 abbrev pub map_contract : {S F X B E : Type 0} → Contract S X E → Mut F (X × Unit {0}) (Result B E) → Contract (S × F) B E
-map_contract m g = passing_contract m (call_by_value g) (λ P f. IsCallable (call_by_value g) (takes_by_value g) P f) map_outcome (λ p h. m.hints p.0 h)
+map_contract m g = record (passing_contract m (call_by_value g) (λ P f. IsCallable (call_by_value g) (takes_by_value g) P f) map_outcome (λ p h. m.hints p.0 h)) { sound = as_source (λ p. p.0) m.sound }
 
 -- the source
 abbrev pub map_source : {I F : Type 0} → Map I F → I

@@ -5,6 +5,7 @@ use Rattle.std.specs.Iterator.{count_map}
 use Rattle.std.specs.Fn.{Shared, FnReturnsAt}
 use Rattle.std.specs.Borrow.{Bor, MutBor}
 use Rattle.fallible_contract.specs.Traces.{Answered, Run, first_of, item, failure, end, NoEnd}
+use Rattle.fallible_contract.specs.Sound.{own_sound}
 use Rattle.fallible_contract.specs.Contract.{Inverse, Contract}
 use Rattle.fallible_contract.specs.Ends.{Ends}
 use Rattle.fallible_contract.specs.Hints.{HintWithItem}
@@ -82,6 +83,7 @@ peekable_contract m = record {
   hints = peekable_hints m;
   lenders = λ p. m.lenders p.0;
   traces = peeks_all m.traces;
+  sound = own_sound (peekable_step m.steps);
 }
 
 -- ---- the second end
@@ -120,6 +122,7 @@ peekable_ends e = record {
   may_give = λ p x. (p.1 ≡ Some (Some x)) ⊎ e.may_give p.0 x;
   may_fail = λ p d. e.may_fail p.0 d;
   traces = peeks_all_back e.traces;
+  sound = own_sound (peekable_step_back e.steps);
 }
 
 -- ---- looking ahead

@@ -121,7 +121,7 @@ impl<
     T: DoubleEndedFallibleIterator,
     U: DoubleEndedFallibleIterator<Item = T::Item, Error = T::Error>,
 > DoubleEndedFallibleIterator for Chain<T, U> {
-    ghost ends = { ends_parts_as chain_parts (chain_ends T.ends U.ends) };
+    ghost ends = { ends_parts_as chain_parts (chain_ends T.contract T.ends U.contract U.ends) };
 
     /// While both sides are drawn it draws the second once from the back. If that is its first `Ok(None)`, it draws the first once from the back in the same call, which alone is drawn from then on, from either end. A failure changes no side. If one side alone is drawn, it draws that side once from the back.
     fn next_back(&mut self) -> Result<Option<T::Item>, T::Error> {

@@ -2,6 +2,7 @@
 use Rattle.std.specs.Prelude.{◌≡◌, List, Some, None, Ok, Err}
 use Rattle.std.proofs.Common.{subst}
 use Rattle.fallible_contract.specs.Traces.{Answered, failure, item}
+use Rattle.fallible_contract.specs.Laws.Sound.{own_hold}
 use Rattle.fallible_contract.specs.Contract.{Contract, KeptByDraw, Lawful, OnAnswer}
 use Rattle.fallible_contract.specs.Own.{MadeOfComing, gathering}
 use Rattle.fallible_contract.specs.Laws.Own.{lawful_gathering}
@@ -31,5 +32,5 @@ pub lawful_gathering_by : {S P K A E B F : Type 0} {m : Contract P A E} (view : 
 lawful_gathering_by {m = m} view key made l = record {
   kept_by_draw = λ s r t c w. kept_by_draw_of_gathering view key made m s t r ((lawful_gathering view (made (key s)) l).kept_by_draw s r t c w.0) w.1;
   bounded = λ s. l.bounded (view s);
-  traced = λ _ _ _. ((λ h. h), (λ h. h));
+  hold = own_hold; traced = λ _ _ _. ((λ h. h), (λ h. h));
 }

@@ -4,6 +4,7 @@ use Rattle.std.specs.Iterator.{IsFinite, size}
 use Rattle.std.proofs.Common.{refl, sym, ap, subst, ◌∙◌, arith}
 use Rattle.std.proofs.lemmas.List.{length-reverse, reverse-reverse}
 use Rattle.fallible_contract.specs.Traces.{Answered}
+use Rattle.fallible_contract.specs.Laws.Sound.{own_hold}
 use Rattle.fallible_contract.specs.Contract.{OnAnswer, NoMore, NoMoreRemains, Fewer}
 use Rattle.fallible_contract.specs.Ends.{from_back, LawfulEnds}
 use Rattle.fallible_contract.specs.BothEnds.{TakesFirst, ListsBothEndsFor, ListsBothEnds}
@@ -46,7 +47,7 @@ module _ {S A E : Type 0} (shows : S → List (Result A E)) where
         lenders = refl;
       };
       bounded = λ s. ((λ f. (length (shows s), omega arith)), (λ n. tt));
-      traced = λ _ _ _. ((λ h. h), (λ h. h));
+      hold = own_hold; traced = λ _ _ _. ((λ h. h), (λ h. h));
     };
   }
 

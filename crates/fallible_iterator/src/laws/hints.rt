@@ -9,7 +9,7 @@ mod one_to_one;
 mod peeking;
 mod sources;
 
-pub use any::{law_hints_after, law_hints_nest};
+pub use any::{law_hints_after, law_hints_nest, law_hints_nest_std};
 pub use cutting::{
     law_hints_fuse, law_hints_skip, law_hints_step_by, law_hints_take, law_hints_take_while,
 };

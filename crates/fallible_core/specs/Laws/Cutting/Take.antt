@@ -3,6 +3,7 @@ use Rattle.std.specs.Prelude.{◌≡◌, ℕ, zero, suc, ◌+◌, ◌<◌, List,
 use Rattle.std.proofs.Common.{arith, inl, inr, refl, ap, subst}
 use Rattle.fallible_contract.specs.Traces.{Answered, Run, first_of, end, items_in}
 use Rattle.fallible_contract.specs.Laws.LawForm.{IsTraced, run_of_whole_list, list_is_trace}
+use Rattle.fallible_core.specs.Laws.Hints.Cutting.{take_hold}
 use Rattle.fallible_contract.specs.Contract.{Contract, OnAnswer, KeptByDraw, Lawful}
 use Rattle.fallible_core.specs.Cutting.Take.{take_contract, take_step, TakeTrace, takes_all}
 
@@ -98,4 +99,4 @@ take_traced {steps = steps} law p trace q = let both = take_law steps p trace q 
 )
 
 pub lawful_take : {S A E : Type 0} {m : Contract S A E} → Lawful m → Lawful (take_contract m)
-lawful_take {m = m} l = record { kept_by_draw = kept_by_draw_take m l; bounded = λ p. ((λ e. (p.1, inl (omega arith))), (λ h. tt)); traced = take_traced l.traced }
+lawful_take {m = m} l = record { kept_by_draw = kept_by_draw_take m l; bounded = λ p. ((λ e. (p.1, inl (omega arith))), (λ h. tt)); traced = take_traced l.traced; hold = take_hold m l.hold }

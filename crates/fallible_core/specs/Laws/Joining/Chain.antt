@@ -3,6 +3,8 @@ use Rattle.std.specs.Prelude.{◌≡◌, ℕ, ◌+◌, List, cond, T, Bool, true
 use Rattle.std.specs.Iterator.{IsFinite, size}
 use Rattle.std.proofs.Common.{arith, inl, inr, refl, ap₂}
 use Rattle.fallible_contract.specs.Traces.{Answered, end, is_end}
+use Rattle.fallible_contract.specs.Sound.{SoundWhere}
+use Rattle.fallible_core.specs.Laws.Hints.Joining.{chain_hold, chain_back_hold}
 use Rattle.fallible_contract.specs.Contract.{Contract, OnAnswer, KeptByDraw, Lawful, lenders_of_both}
 use Rattle.fallible_contract.specs.Ends.{Ends, from_back, LawfulEnds}
 use Rattle.fallible_contract.specs.Laws.LawForm.{traces_are_of_parts}
@@ -107,7 +109,7 @@ module _ {S U A E : Type 0} (first : Contract S A E) (second : Contract U A E) w
     is_finite_iff_bound_chain (s, u, SecondAlone) = k.bounded u
 
 pub lawful_chain : {S U A E : Type 0} {first : Contract S A E} {second : Contract U A E} → Lawful first → Lawful second → Lawful (chain_contract first second)
-lawful_chain {first = first} {second = second} l k = record { kept_by_draw = kept_by_draw_chain first second l k; bounded = is_finite_iff_bound_chain first second l k; traced = chain_traced l.traced k.traced }
+lawful_chain {first = first} {second = second} l k = record { kept_by_draw = kept_by_draw_chain first second l k; bounded = is_finite_iff_bound_chain first second l k; traced = chain_traced l.traced k.traced; hold = chain_hold first second l.hold k.hold }
 
 -- ---- the second end
 
@@ -165,8 +167,8 @@ module _ {S U A E : Type 0} (first : Contract S A E) (second : Contract U A E) w
   )
 
   -- A draw that goes, seen from the back, goes, whatever the steps are.
-  kept_by_draw_back : (steps : S × U × StillDrawn → Answered A E → S × U × StillDrawn → Type 0) (traces : S × U × StillDrawn → List (Answered A E) → S × U × StillDrawn → Type 0) (p : S × U × StillDrawn) (r : Answered A E) (q : S × U × StillDrawn) → KeptByDraw (ChainContract second first) (chain_back p) r (chain_back q) → KeptByDraw (record (ChainContract first second) { steps = steps; traces = traces }) p r q
-  kept_by_draw_back steps traces p r q g = record {
+  kept_by_draw_back : (steps : S × U × StillDrawn → Answered A E → S × U × StillDrawn → Type 0) (traces : S × U × StillDrawn → List (Answered A E) → S × U × StillDrawn → Type 0) (sound : SoundWhere (S × U × StillDrawn)) (p : S × U × StillDrawn) (r : Answered A E) (q : S × U × StillDrawn) → KeptByDraw (ChainContract second first) (chain_back p) r (chain_back q) → KeptByDraw (record (ChainContract first second) { steps = steps; traces = traces; sound = sound }) p r q
+  kept_by_draw_back steps traces sound p r q g = record {
     can_next = (g.can_next.1, g.can_next.0);
     is_finite = λ h. (is_finite_iff_chain_back_is_finite q).1 (g.is_finite ((is_finite_iff_chain_back_is_finite p).0 h));
     answer = on_answer_back p r q g.answer;
@@ -176,15 +178,16 @@ module _ {S U A E : Type 0} (first : Contract S A E) (second : Contract U A E) w
   }
 
 -- A chain from the back is the chain of both backs in the other order, and turned twice it is itself.
-pub lawful_ends_chain : {S U A E : Type 0} {first : Contract S A E} {f : Ends S A E} {second : Contract U A E} {e : Ends U A E} → LawfulEnds first f → LawfulEnds second e → LawfulEnds (chain_contract first second) (chain_ends f e)
+pub lawful_ends_chain : {S U A E : Type 0} {first : Contract S A E} {f : Ends S A E} {second : Contract U A E} {e : Ends U A E} → LawfulEnds first f → LawfulEnds second e → LawfulEnds (chain_contract first second) (chain_ends first f second e)
 lawful_ends_chain {first = first} {f = f} {second = second} {e = e} l k = record {
   front_can = λ p c. (l.front_can p.0 c.0, k.front_can p.1 c.1);
   may_give = chain_may_come_by_each_part l.may_give k.may_give;
   may_fail = chain_may_come_by_each_part l.may_fail k.may_fail;
   front = lawful_chain l.front k.front;
   back = record {
-    kept_by_draw = λ p r q c step. kept_by_draw_back (from_back first f) (from_back second e) (chain_ends f e).steps (chain_ends f e).traces p r q ((lawful_chain k.back l.back).kept_by_draw (chain_back p) r (chain_back q) (c.1, c.0) step);
+    kept_by_draw = λ p r q c step. kept_by_draw_back (from_back first f) (from_back second e) (chain_ends first f second e).steps (chain_ends first f second e).traces (chain_ends first f second e).sound p r q ((lawful_chain k.back l.back).kept_by_draw (chain_back p) r (chain_back q) (c.1, c.0) step);
     bounded = (lawful_chain l.back k.back).bounded;
     traced = traces_are_of_parts chain_back chain_back chain_back_twice chain_back_twice (chain_step e.steps f.steps) (chains_all e.traces f.traces) (chain_traced k.back.traced l.back.traced);
+    hold = chain_back_hold (from_back first f) (from_back second e) l.back.hold k.back.hold;
   };
 }

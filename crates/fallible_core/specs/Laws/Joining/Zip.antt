@@ -3,6 +3,7 @@ use Rattle.std.specs.Prelude.{ℕ, ◌<◌, Option, Some, None, Ok, Err, ◌↔�
 use Rattle.std.specs.Iterator.{IsFinite, size}
 use Rattle.std.proofs.Common.{arith, inl, inr, refl, ap₂, ap, subst}
 use Rattle.fallible_contract.specs.Traces.{Answered, item, failure, Run}
+use Rattle.fallible_core.specs.Laws.Hints.Joining.{zip_hold}
 use Rattle.fallible_contract.specs.Contract.{Contract, NoMore, NoMoreRemains, OnAnswer, KeptByDraw, Lawful, lenders_of_both}
 use Rattle.fallible_contract.specs.Laws.Contract.{no_more_after, no_more_remains_after}
 use Rattle.fallible_core.specs.Joining.Zip.{ZipPlace, left_failed, both_drawn, left_answer, zip_answer, right_step, zip_contract, right_answer, ZipTrace, zip_step, zips_all}
@@ -107,4 +108,4 @@ zip_traced {A = A} {B = B} {E = E} {steps = steps} {others = others} law other_l
 )
 
 pub lawful_zip : {S U A B E : Type 0} {left : Contract S A E} {right : Contract U B E} → Lawful left → Lawful right → Lawful (zip_contract left right)
-lawful_zip {left = left} {right = right} l k = record { kept_by_draw = kept_by_draw_zip left right l k; bounded = is_finite_iff_bound_zip left right l k; traced = zip_traced l.traced k.traced }
+lawful_zip {left = left} {right = right} l k = record { kept_by_draw = kept_by_draw_zip left right l k; bounded = is_finite_iff_bound_zip left right l k; traced = zip_traced l.traced k.traced; hold = zip_hold left right l.hold k.hold }

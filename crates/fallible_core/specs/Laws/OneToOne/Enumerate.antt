@@ -2,6 +2,7 @@
 use Rattle.std.specs.Prelude.{◌≡◌, ℕ, ◌+◌, List, [], ◌∷◌, Some, None, Ok, Err}
 use Rattle.std.proofs.Common.{sym, subst, arith, refl, ap}
 use Rattle.fallible_contract.specs.Traces.{Answered, Run, item, items_in}
+use Rattle.fallible_contract.specs.Laws.Sound.{own_hold}
 use Rattle.fallible_contract.specs.Contract.{Contract, KeptByDraw, Lawful}
 use Rattle.fallible_core.specs.OneToOne.Enumerate.{numbered_from, EnumerateTrace, enumerate_contract, numbers_all}
 use Rattle.fallible_contract.specs.Laws.LawForm.{FirstOf, IsByAnswers, IsTraced, run_at_one_answer_iff_law, run_of_whole_list, list_is_trace}
@@ -94,4 +95,4 @@ enumerate_traced {A = A} {E = E} {steps = steps} law p trace q = let both = run_
 )
 
 pub lawful_enumerate : {S A E : Type 0} {m : Contract S A E} → Lawful m → Lawful (enumerate_contract m)
-lawful_enumerate {m = m} l = record { kept_by_draw = kept_by_draw_enumerate m l; bounded = λ p. l.bounded p.0; traced = enumerate_traced l.traced }
+lawful_enumerate {m = m} l = record { kept_by_draw = kept_by_draw_enumerate m l; bounded = λ p. l.bounded p.0; traced = enumerate_traced l.traced; hold = own_hold }

@@ -2,6 +2,7 @@
 use Rattle.std.specs.Prelude.{◌+◌, Option, Some, None, Ok, Err, ◌≡◌, List, [], ◌∷◌, ◌++◌, ◌↔◌}
 use Rattle.std.proofs.Common.{refl, arith, inl, inr, sym, ap, subst}
 use Rattle.fallible_contract.specs.Traces.{Answered, item, end, Run}
+use Rattle.fallible_contract.specs.Laws.Sound.{own_hold}
 use Rattle.fallible_contract.specs.Contract.{Contract, OnAnswer, KeptByDraw, Lawful}
 use Rattle.fallible_contract.specs.Ends.{Ends, from_back, LawfulEnds}
 use Rattle.fallible_core.specs.Peeking.Peekable.{held_items, peekable_contract, IsNoEnd, peekable_step_back, peekable_ends, held_answers, PeekableTrace, peekable_step, peeks_all}
@@ -84,6 +85,7 @@ pub lawful_peekable : {S A E : Type 0} {m : Contract S A E} → Lawful m → Law
 lawful_peekable {m = m} l = record {
   kept_by_draw = kept_by_draw_peekable m l;
   traced = peekable_traced l.traced;
+  hold = own_hold;
   bounded = λ p. ((λ e. let k = (l.bounded p.0).0 e in (k.0 + held_items p.1, (k.0, k.1, omega arith))), (λ h. (l.bounded p.0).1 ((h.1).0, (h.1).1)));
 }
 
@@ -163,5 +165,6 @@ lawful_ends_peekable {m = m} {e = e} l = record {
     kept_by_draw = kept_by_draw_back m e l.back;
     bounded = (lawful_peekable l.back).bounded;
     traced = peekable_back_traced l.back.traced;
+    hold = own_hold;
   };
 }

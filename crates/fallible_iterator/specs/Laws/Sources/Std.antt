@@ -1,14 +1,17 @@
 -- The contract over a std iterator is lawful, from the front and from both ends.
-use Rattle.std.specs.Prelude.{◌≡◌, Result, List, [], ◌∷◌, map, ◌≤◌, Option, Some, None, Ok, Err, ◌↔◌}
-use Rattle.std.specs.Iterator.{Count, IsFinite, size}
+use Rattle.std.specs.Prelude.{◌≡◌, ℕ, Result, List, length, IfSome, [], ◌∷◌, map, ◌≤◌, Option, Some, None, Ok, Err, ◌↔◌}
+use Rattle.std.specs.Iterator.{Count, IsFinite, size, UpTo}
 use Rattle.std.proofs.Common.{refl, arith}
-use Rattle.fallible_contract.specs.Traces.{Answered, Run, item, failure}
+use Rattle.fallible_contract.specs.Traces.{Answered, Run, Yields, item, failure, end}
+use Rattle.fallible_contract.specs.Sound.{HintsHold, BoundsAbove}
+use Rattle.std.specs.Iterator.SizeHint.{IsWithinCount}
+use Rattle.std.specs.Iterator as calls
 use Rattle.fallible_contract.specs.Contract.{Contract, OnAnswer, Lawful}
 use Rattle.fallible_contract.specs.Ends.{LawfulEnds}
 use Rattle.fallible_contract.specs.BothEnds.{step_at, RunAtEnds}
 use Rattle.fallible_contract.specs.Lists.{result_answer}
 use Rattle.fallible_iterator.specs.Sources.IntoFallible.{never}
-use Rattle.fallible_iterator.specs.Sources.Std.{std_element, std_step, std_contract, std_ends, IsAskable, Comes, IsAskableAtEnds, ComesAtEnds, StdTrace}
+use Rattle.fallible_iterator.specs.Sources.Std.{std_element, std_sound, std_step, std_contract, std_ends, IsAskable, Comes, IsAskableAtEnds, ComesAtEnds, StdTrace}
 use Rattle.fallible_contract.specs.declared.answers.Side.{Side}
 use Rattle.fallible_contract.specs.declared.answers.Side.TheVariants.{Front, Back}
 
@@ -34,6 +37,35 @@ module _ {S A E Z : Type 0} (of_item : A → Z) (of_failure : E → Z) (can : S 
 
   pub runs_are_std_traces : (s : S) (trace : List (Answered A E)) (t : S) → Run (std_step of_item of_failure can gives remaining) s trace t ↔ StdTrace of_item of_failure can gives remaining s trace t
   runs_are_std_traces s trace t = (std_trace_of_run trace s t, run_of_std_trace trace s t)
+
+-- ---- where hints are sound
+
+module _ {S A E Z : Type 0} (of_item : A → Z) (of_failure : E → Z) (can : S → Type 0) (gives : S → Option Z → S → Type 0) (remaining : S → Count) where
+  abbrev called_step : S → Answered A E → S → Type 0
+  called_step = std_step of_item of_failure can gives remaining
+
+  calls_yield_of_yields : (xs : List A) (s t : S) → Yields called_step s xs t → calls.Yields gives s (map of_item xs) t
+  calls_yield_of_yields [] s t e = e
+  calls_yield_of_yields (x ∷ xs) s t ran = (ran.0, ran.1.0, calls_yield_of_yields xs ran.0 t ran.2)
+
+  -- each element lowers what remains
+  length_at_most_remaining : (xs : List A) (s t : S) → Yields called_step s xs t → IsFinite (remaining s) → length xs ≤ size (remaining s)
+  length_at_most_remaining [] s t ran f = omega arith
+  length_at_most_remaining (x ∷ xs) s t ran f = let d = ran.1.1.on f in let rest = length_at_most_remaining xs ran.0 t ran.2 d.1 in omega (arith, d.2, rest)
+
+  if_some_at_least_of_up_to_remaining : (o : Option ℕ) (s : S) (n : ℕ) → (IsFinite (remaining s) → n ≤ size (remaining s)) → IfSome o (UpTo (remaining s)) → IfSome o (λ u. n ≤ u)
+  if_some_at_least_of_up_to_remaining None s n few h = tt
+  if_some_at_least_of_up_to_remaining (Some u) s n few h = let le = few h.0 in omega (arith, le, h.1)
+
+  -- so an upper bound of what remains is one of the draws
+  pub bounds_above_where_up_to_remaining : (s : S) (o : Option ℕ) → IfSome o (UpTo (remaining s)) → BoundsAbove called_step s o
+  bounds_above_where_up_to_remaining s o up xs t ran = if_some_at_least_of_up_to_remaining o s (length xs) (λ f. length_at_most_remaining xs s t ran f) up
+
+  std_hold : HintsHold called_step (λ s h. IsWithinCount h.0 (remaining s) × IfSome h.1 (UpTo (remaining s))) (std_sound of_item gives)
+  std_hold = record {
+    above = λ s h is a. bounds_above_where_up_to_remaining s h.1 is.1;
+    below = λ s h is b xs t u ran step. b xs u (t, calls_yield_of_yields xs s t ran, step.0);
+  }
 
 module _ {S A E Z : Type 0} (of_item : A → Z) (of_failure : E → Z) (can : S → Type 0) (gives : S → Option Z → S → Type 0) (remaining : S → Count) (Askable : S → Type 0) (Arrives : S → Answered A E → Type 0) where
   abbrev step_of_std : S → Answered A E → S → Type 0
@@ -70,7 +102,7 @@ module _ {S A E Z : Type 0} (of_item : A → Z) (of_failure : E → Z) (can : S 
       lenders = refl;
     };
     bounded = λ s. ((λ f. (size (remaining s), (f, omega arith))), (λ p. p.1.0));
-    traced = runs_are_std_traces of_item of_failure can gives remaining;
+    hold = std_hold of_item of_failure can gives remaining; traced = runs_are_std_traces of_item of_failure can gives remaining;
   }
 
 -- ---- from the front

@@ -9,7 +9,9 @@ ghost use Rattle.fallible_iterator.specs.SoundHints.{Brackets, SoundAbove, Sound
 
 use fallible_core::cutting::Take;
 use fallible_core::filtering::Filter;
+use fallible_core::headline::law_hints;
 use fallible_core::one_to_one::Map;
+use crate::sources::Convert;
 use fallible_core::traits::FallibleIterator;
 
 /// A hint that brackets what comes, less the items of a run, brackets what comes after that run.
@@ -36,4 +38,20 @@ where
     super::law_hints_map::<I, B, F>();
     super::law_hints_filter::<Map<I, F>, G>();
     super::law_hints_take::<Filter<Map<I, F>, G>>();
+}
+
+/// Of `convert(it).map(f).filter(g).take(n)`: every hint is sound, whatever the std iterator is.
+pub fn law_hints_nest_std<
+    T,
+    E,
+    I: std::iter::Iterator<Item = Result<T, E>>,
+    B: Drop,
+    F: FnMut(T) -> Result<B, E>,
+    G: FnMut(&B) -> Result<bool, E>,
+>()
+where
+    ensures sound { (s : Take (Filter (Map (Convert I) F) G))
+        → SoundHints ⟦<Take<Filter<Map<Convert<I>, F>, G>> as FallibleIterator>⟧.contract s }
+{
+    law_hints::<Take<Filter<Map<Convert<I>, F>, G>>>();
 }
