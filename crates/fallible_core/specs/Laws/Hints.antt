@@ -1,5 +1,6 @@
 -- Why the hints of each type are sound where it says so.
 pub mod Brackets
+pub mod ByNumber
 pub mod Cutting
 pub mod Drawn
 pub mod Holding
