@@ -3,6 +3,8 @@ pub mod Brackets
 pub mod ByNumber
 pub mod Cutting
 pub mod Drawn
+pub mod Filtering
 pub mod Holding
 pub mod Joining
 pub mod Passing
+pub mod Peeking
