@@ -1,5 +1,5 @@
 -- What makes a hint sound, and where a type's are.
-use Rattle.std.specs.Prelude.{ℕ, ◌≤◌, List, length, Option, IfSome, ⊤}
+use Rattle.std.specs.Prelude.{◌≡◌, ℕ, ◌≤◌, List, length, Option, IfSome, ⊤}
 use Rattle.fallible_contract.specs.Traces.{Answered, Yields, end}
 
 module _ {S A E : Type 0} (steps : S → Answered A E → S → Type 0) (s : S) where
@@ -54,6 +54,20 @@ module _ {S : Type 0} (hints : S → ℕ × Option ℕ → Type 0) (w : SoundWhe
 abbrev pub as_each : {V S : Type 0} → (V → S) → (S → ℕ × Option ℕ → Type 0) → SoundWhere S → SoundWhere V
 as_each source_of hints w = record { above = λ s high. EachAbove hints w (source_of s); below = λ s low. EachBelow hints w (source_of s) }
 
+-- a hint that is made of one of the source, wherever that one is one of the source
+abbrev pub as_made : {V S : Type 0} → (V → S) → (S → ℕ × Option ℕ → Type 0) → SoundWhere S → (V → ℕ × Option ℕ → ℕ × Option ℕ) → SoundWhere V
+as_made source_of hints w made = record {
+  above = λ s high. (k : ℕ × Option ℕ) × hints (source_of s) k × (high ≡ (made s k).1) × w.above (source_of s) k.1;
+  below = λ s low. (k : ℕ × Option ℕ) × hints (source_of s) k × (low ≡ (made s k).0) × w.below (source_of s) k.0;
+}
+
 -- wherever each hint of both sources is
 abbrev pub as_both : {V T U : Type 0} → (V → T) → (V → U) → (T → ℕ × Option ℕ → Type 0) → SoundWhere T → (U → ℕ × Option ℕ → Type 0) → SoundWhere U → SoundWhere V
 as_both left right hints w others v = record { above = λ s high. EachAbove hints w (left s) × EachAbove others v (right s); below = λ s low. EachBelow hints w (left s) × EachBelow others v (right s) }
+
+-- a hint that is made of one of each source, wherever each of these is one of its source
+abbrev pub as_made_of_both : {V T U : Type 0} → (V → T) → (V → U) → (T → ℕ × Option ℕ → Type 0) → SoundWhere T → (U → ℕ × Option ℕ → Type 0) → SoundWhere U → (ℕ × Option ℕ → ℕ × Option ℕ → ℕ × Option ℕ) → SoundWhere V
+as_made_of_both left right hints w others v made = record {
+  above = λ s high. (j : ℕ × Option ℕ) × (k : ℕ × Option ℕ) × hints (left s) j × others (right s) k × (high ≡ (made j k).1) × w.above (left s) j.1 × v.above (right s) k.1;
+  below = λ s low. (j : ℕ × Option ℕ) × (k : ℕ × Option ℕ) × hints (left s) j × others (right s) k × (low ≡ (made j k).0) × w.below (left s) j.0 × v.below (right s) k.0;
+}

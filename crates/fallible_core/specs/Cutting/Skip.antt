@@ -2,6 +2,7 @@
 use Rattle.std.proofs.Common.{refl}
 use Rattle.std.specs.Prelude.{ℕ, Option, ◌≡◌, ◌-◌, ltb, List, [], ◌∷◌, zero, suc, Result, Ok, Err}
 use Rattle.fallible_contract.specs.Traces.{Answered}
+use Rattle.fallible_contract.specs.Sound.{as_made}
 use Rattle.fallible_contract.specs.Contract.{Inverse, Contract}
 use Rattle.fallible_contract.specs.ByNumber.{KeptByNumber, keeps_all}
 use Rattle.fallible_contract.specs.WithSteps.{with_steps_contract}
@@ -36,9 +37,9 @@ skip_step steps p r q = SkipTrace steps p (r ∷ []) q
 abbrev pub skips_all : {S A E : Type 0} → (S → List (Answered A E) → S → Type 0) → S × ℕ → List (Answered A E) → S × ℕ → Type 0
 skips_all traces p trace q = keeps_all (λ k. ltb p.1 k) (λ k. p.1 - k) traces p.0 trace q.0 q.1
 
--- `Skip`'s contract: that of its source but for the step and the hint.
+-- `Skip`'s contract: that of its source but for the step and the hint, which is sound wherever the source's is that it is made of.
 abbrev pub skip_contract : {S A E : Type 0} → Contract S A E → Contract (S × ℕ) A E
-skip_contract m = record (with_steps_contract m (skip_step m.steps) (λ p h. (k : ℕ × Option ℕ) × m.hints p.0 k × (h ≡ hint_less p.1 k))) { traces = skips_all m.traces }
+skip_contract m = record (with_steps_contract m (skip_step m.steps) (λ p h. (k : ℕ × Option ℕ) × m.hints p.0 k × (h ≡ hint_less p.1 k))) { traces = skips_all m.traces; sound = as_made (λ p. p.0) m.hints m.sound (λ p k. hint_less p.1 k) }
 
 -- ---- what it lists
 

@@ -2,6 +2,7 @@
 use Rattle.std.proofs.Common.{refl}
 use Rattle.std.specs.Prelude.{ℕ, zero, suc, Bool, Option, ◌≡◌, ◌+◌, ◌-◌, ◌%◌, ltb, leb, eqb, cond, ◌&&◌, List, [], ◌∷◌, ⊤, Result, Ok, Err}
 use Rattle.fallible_contract.specs.Traces.{Answered}
+use Rattle.fallible_contract.specs.Sound.{as_made}
 use Rattle.fallible_contract.specs.Contract.{Inverse, Contract}
 use Rattle.fallible_contract.specs.ByNumber.{KeptByNumber, keeps_all}
 use Rattle.fallible_contract.specs.WithSteps.{with_steps_contract}
@@ -50,9 +51,9 @@ step_by_step steps p r q = StepByTrace steps p (r ∷ []) q
 abbrev pub steps_all : {S A E : Type 0} → (S → List (Answered A E) → S → Type 0) → S × (ℕ × ℕ) → List (Answered A E) → S × (ℕ × ℕ) → Type 0
 steps_all traces p trace q = keeps_all (keeps_at_steps (p.1).0 (p.1).1) (to_skip_after (p.1).0 (p.1).1) traces p.0 trace q.0 (q.1).1 × ((q.1).0 ≡ (p.1).0)
 
--- `StepBy`'s contract: that of its source but for the step and the hint.
+-- `StepBy`'s contract: that of its source but for the step and the hint, which is sound wherever the source's is that it is made of.
 abbrev pub step_by_contract : {S A E : Type 0} → Contract S A E → Contract (S × (ℕ × ℕ)) A E
-step_by_contract m = record (with_steps_contract m (step_by_step m.steps) (λ p h. (k : ℕ × Option ℕ) × m.hints p.0 k × (h ≡ hint_kept (p.1).0 (p.1).1 k))) { traces = steps_all m.traces }
+step_by_contract m = record (with_steps_contract m (step_by_step m.steps) (λ p h. (k : ℕ × Option ℕ) × m.hints p.0 k × (h ≡ hint_kept (p.1).0 (p.1).1 k))) { traces = steps_all m.traces; sound = as_made (λ p. p.0) m.hints m.sound (λ p k. hint_kept (p.1).0 (p.1).1 k) }
 
 -- ---- its fold, through the source's own
 

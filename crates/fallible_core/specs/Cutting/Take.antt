@@ -2,7 +2,7 @@
 use Rattle.std.proofs.Common.{refl}
 use Rattle.std.specs.Prelude.{◌≡◌, ℕ, zero, suc, ◌+◌, ◌≤◌, ◌<◌, List, [], ◌∷◌, ◌++◌, replicate, Option, ⊤, ◌⊎◌, Result, Ok, Err}
 use Rattle.fallible_contract.specs.Traces.{Answered, Run, first_of, end, items_in}
-use Rattle.fallible_contract.specs.Sound.{SoundWhere}
+use Rattle.fallible_contract.specs.Sound.{as_made}
 use Rattle.fallible_contract.specs.Contract.{Inverse, Contract}
 use Rattle.fallible_contract.specs.WithSteps.{with_steps_contract}
 use Rattle.fallible_contract.specs.Hints.{hint_up_to}
@@ -27,13 +27,6 @@ take_step steps (s, suc n) r (t, to_take) = steps s r t × (to_take + items_in (
 -- Its definition over all that its source returns.
 abbrev pub takes_all : {S A E : Type 0} → (S → List (Answered A E) → S → Type 0) → S × ℕ → List (Answered A E) → S × ℕ → Type 0
 takes_all {A = A} {E = E} traces p trace q = (drawn : List (Answered A E)) × traces p.0 drawn q.0 × TakeTrace first_of (drawn, p.1) trace ([], q.1)
-
--- wherever the hint of the source is that it is made of by h
-abbrev pub as_made : {V S : Type 0} → (V → S) → (S → ℕ × Option ℕ → Type 0) → SoundWhere S → (V → ℕ × Option ℕ → ℕ × Option ℕ) → SoundWhere V
-as_made source_of hints w made = record {
-  above = λ s high. (k : ℕ × Option ℕ) × hints (source_of s) k × (high ≡ (made s k).1) × w.above (source_of s) k.1;
-  below = λ s low. (k : ℕ × Option ℕ) × hints (source_of s) k × (low ≡ (made s k).0) × w.below (source_of s) k.0;
-}
 
 -- `Take`'s contract. It is always finite: what is left to take is a bound, and so is each of the source's.
 abbrev pub take_contract : {S A E : Type 0} → Contract S A E → Contract (S × ℕ) A E

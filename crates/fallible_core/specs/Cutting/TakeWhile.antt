@@ -5,6 +5,7 @@ use Rattle.std.specs.List.{filter_map}
 use Rattle.std.specs.Fn.{Mut}
 use Rattle.std.specs.Borrow.{Bor}
 use Rattle.fallible_contract.specs.Traces.{Answered, Run, first_of, item, failure, end}
+use Rattle.fallible_contract.specs.Sound.{above_as_source, sound_once}
 use Rattle.fallible_contract.specs.Contract.{Inverse, Contract}
 use Rattle.fallible_contract.specs.Closures.{Calls, IsCallable, call_by_reference, takes_by_reference}
 use Rattle.fallible_contract.specs.Passing.{Place, asked, failure_at, end_at, source_answer, call_of, passing_contract}
@@ -51,9 +52,9 @@ takes_while_all {X = X} {E = E} traces call p trace q = (l : List (Answered X E)
 abbrev pub place_drawn : {S F X R E : Type 0} → (S → Answered X E → S → Type 0) → (F → X → R → F → Type 0) → S × F → Place X R E → S × F → Type 0
 place_drawn steps call p x q = steps p.0 (source_answer x) q.0 × Calls call p.1 (filter_map call_of (x ∷ [])) q.1
 
--- `TakeWhile`'s contract: the predicate may be called on each item that may come. Until an item is rejected the hint has the source's upper bound alone.
+-- `TakeWhile`'s contract: the predicate may be called on each item that may come. Until an item is rejected the hint has the source's upper bound alone, and is sound where that is; from then on always.
 abbrev pub take_while_contract : {S F X E : Type 0} → Contract S X E → Mut F (Bor X × Unit {0}) (Result Bool E) → Contract ((S × F) × Bool) X E
-take_while_contract m g = record (closing_contract (passing_contract m (call_by_reference g) (λ P f. IsCallable (call_by_reference g) (takes_by_reference g) P f) take_while_outcome (λ p h. upper_alone m p.0 h)) (place_drawn m.steps (call_by_reference g)) taken_answer is_refused) { traces = takes_while_all m.traces (call_by_reference g) }
+take_while_contract m g = record (closing_contract (passing_contract m (call_by_reference g) (λ P f. IsCallable (call_by_reference g) (takes_by_reference g) P f) take_while_outcome (λ p h. upper_alone m p.0 h)) (place_drawn m.steps (call_by_reference g)) taken_answer is_refused) { traces = takes_while_all m.traces (call_by_reference g); sound = sound_once (λ p. p.1 ≡ true) (above_as_source (λ p. (p.0).0) m.sound) }
 
 -- the source
 abbrev pub take_while_source : {I P : Type 0} → TakeWhile I P → I

@@ -3,7 +3,7 @@ use Rattle.std.proofs.Common.{refl}
 use Rattle.std.specs.Prelude.{◌≡◌, ◌≢◌, ℕ, ◌+◌, ◌≤◌, false, List, [], ◌∷◌, ◌++◌, Option, ◌⊎◌, Result}
 use Rattle.std.specs.Iterator.{Count, count_add}
 use Rattle.fallible_contract.specs.Traces.{Answered, Run, first_of, end, is_end, NoEnd}
-use Rattle.fallible_contract.specs.Sound.{SoundWhere, EachAbove, EachBelow}
+use Rattle.fallible_contract.specs.Sound.{SoundWhere, as_made_of_both}
 use Rattle.fallible_contract.specs.Contract.{Inverse, Contract, lenders_of_both}
 use Rattle.fallible_contract.specs.Ends.{Ends}
 use Rattle.fallible_contract.specs.Hints.{hint_sum}
@@ -44,17 +44,19 @@ chain_may_come first second (s, u, Both) x = first s x ⊎ second u x
 chain_may_come first second (s, u, FirstAlone) x = first s x
 chain_may_come first second (s, u, SecondAlone) x = second u x
 
--- wherever a hint of the sides is that are still drawn: each of both, or the one that is the one side's
+-- an upper bound of a hint, by the sides that are still drawn: one that is made of one of each of both, wherever these are, or that of the one side
 abbrev pub sides_above : {S U : Type 0} → (S → ℕ × Option ℕ → Type 0) → SoundWhere S → (U → ℕ × Option ℕ → Type 0) → SoundWhere U → S × U × StillDrawn → Option ℕ → Type 0
-sides_above hints w others v (s, u, Both) high = EachAbove hints w s × EachAbove others v u
+sides_above {S = S} {U = U} hints w others v (s, u, Both) high = (as_made_of_both {V = S × U} (λ p. p.0) (λ p. p.1) hints w others v hint_sum).above (s, u) high
 sides_above hints w others v (s, u, FirstAlone) high = w.above s high
 sides_above hints w others v (s, u, SecondAlone) high = v.above u high
 
+-- and so a lower one
 abbrev pub sides_below : {S U : Type 0} → (S → ℕ × Option ℕ → Type 0) → SoundWhere S → (U → ℕ × Option ℕ → Type 0) → SoundWhere U → S × U × StillDrawn → ℕ → Type 0
-sides_below hints w others v (s, u, Both) low = EachBelow hints w s × EachBelow others v u
+sides_below {S = S} {U = U} hints w others v (s, u, Both) low = (as_made_of_both {V = S × U} (λ p. p.0) (λ p. p.1) hints w others v hint_sum).below (s, u) low
 sides_below hints w others v (s, u, FirstAlone) low = w.below s low
 sides_below hints w others v (s, u, SecondAlone) low = v.below u low
 
+-- wherever the hints of the sides are that are still drawn
 abbrev pub as_sides : {S U : Type 0} → (S → ℕ × Option ℕ → Type 0) → SoundWhere S → (U → ℕ × Option ℕ → Type 0) → SoundWhere U → SoundWhere (S × U × StillDrawn)
 as_sides hints w others v = record { above = sides_above hints w others v; below = sides_below hints w others v }
 

@@ -1,12 +1,20 @@
 -- `Cycle`: a run, and at its end a fresh clone of the kept source as the next run.
 use Rattle.std.proofs.Common.{refl}
-use Rattle.std.specs.Prelude.{◌≡◌, ℕ, List, [], ◌∷◌, ◌++◌, Option, false, ◌⊎◌}
+use Rattle.std.specs.Prelude.{◌≡◌, ℕ, List, [], ◌∷◌, ◌++◌, Option, false, ⊤, ◌⊎◌}
 use Rattle.fallible_contract.specs.Traces.{Answered, Run, failure, end, is_end, NoEnd}
+use Rattle.fallible_contract.specs.Sound.{SoundWhere, BoundsBelow}
 use Rattle.fallible_contract.specs.Contract.{Inverse, Contract, unbounded_contract}
 use Rattle.fallible_contract.specs.Refusals.{RefusedAs}
 use Rattle.fallible_contract.specs.Hints.{cycle_hint}
 use Rattle.std.specs.declared.alloc.AllocError.{AllocError}
 use Rattle.fallible_core.specs.declared.joining.cycle.Cycle.{Cycle}
+
+-- the upper bound always, and a lower one that is made of a hint of the kept source, wherever that one is one of each clone of it
+abbrev pub as_clones : {S A E : Type 0} → (S → S → Type 0) → Contract S A E → SoundWhere (S × S)
+as_clones {S = S} is_clone m = record {
+  above = λ p high. ⊤;
+  below = λ p low. (k : ℕ × Option ℕ) × m.hints p.1 k × (low ≡ (cycle_hint k).0) × ((c : S) → is_clone p.1 c → BoundsBelow m.steps c k.0);
+}
 
 module _ {S A E : Type 0} (is_clone : S → S → Type 0) (is_infallible : S → Type 0) (from : AllocError → E → Type 0) where
   -- ---- below, `traces s l t` says that draws of a run at s may return the answers l and leave t
@@ -44,6 +52,7 @@ module _ {S A E : Type 0} (is_clone : S → S → Type 0) (is_infallible : S →
     may_fail = λ p e. m.may_fail p.0 e ⊎ ((c : S) × is_clone p.1 c × m.may_fail c e) ⊎ RefusedAs is_infallible from p.1 e;
     hints = λ p h. (k : ℕ × Option ℕ) × m.hints p.1 k × (h ≡ cycle_hint k);
     traces = cycles_all m.traces;
+    sound = as_clones is_clone m;
   }
 
 -- the source

@@ -5,7 +5,7 @@ use Rattle.std.specs.List.{flat_map}
 use Rattle.std.specs.Iterator.{endless}
 use Rattle.fallible_contract.specs.Lists.{Lists}
 use Rattle.fallible_contract.specs.Traces.{Answered, Run, item, failure, end, NoEnd}
-use Rattle.fallible_contract.specs.Sound.{own_sound}
+use Rattle.fallible_contract.specs.Sound.{sound_always}
 use Rattle.fallible_contract.specs.Contract.{Inverse, Contract}
 use Rattle.fallible_contract.specs.Folds.{CallableDriving, Driven}
 use Rattle.fallible_core.specs.Joining.Chain.{chained}
@@ -140,7 +140,7 @@ module _ {S X C B E : Type 0} (m : Contract S X E) (into : X → C → Type 0) (
     hints = λ p h. h ≡ (0, None);
     lenders = λ p. m.lenders p.0;
     traces = flattens_all m.traces into inner.traces;
-    sound = own_sound (λ p r q. FlattenTrace m.steps into inner.steps p (r ∷ []) q);
+    sound = sound_always;
   }
 
 -- ---- a fold, as one of the outer source

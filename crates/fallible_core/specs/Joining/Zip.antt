@@ -4,7 +4,7 @@ use Rattle.std.specs.Prelude.{ℕ, Option, Some, ◌≡◌, List, map, None, Ok,
 use Rattle.std.specs.List.{filter_map}
 use Rattle.std.specs.Iterator.{count_add}
 use Rattle.fallible_contract.specs.Traces.{Answered, Run, first_of, item, failure, end}
-use Rattle.fallible_contract.specs.Sound.{as_both}
+use Rattle.fallible_contract.specs.Sound.{as_made_of_both}
 use Rattle.fallible_contract.specs.Contract.{Inverse, Contract, lenders_of_both}
 use Rattle.fallible_contract.specs.Hints.{hint_smaller}
 use Rattle.fallible_core.specs.declared.joining.zip.Zip.{Zip}
@@ -81,7 +81,7 @@ zip_contract left right = record {
   hints = λ p h. (g : ℕ × Option ℕ) × (k : ℕ × Option ℕ) × left.hints p.0 g × right.hints p.1 k × (h ≡ hint_smaller g k);
   lenders = λ p. lenders_of_both (left.lenders p.0) (right.lenders p.1);
   traces = zips_all left.traces right.traces;
-  sound = as_both (λ p. p.0) (λ p. p.1) left.hints left.sound right.hints right.sound;
+  sound = as_made_of_both (λ p. p.0) (λ p. p.1) left.hints left.sound right.hints right.sound hint_smaller;
 }
 
 -- ---- what it lists

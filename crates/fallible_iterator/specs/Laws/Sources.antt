@@ -1,6 +1,7 @@
 -- Lemmas that the ghost members of such types cite: one file a type.
 pub mod Empty
 pub mod FromFn
+pub mod Hints
 pub mod Listed
 pub mod Once
 pub mod OnceErr

@@ -25,7 +25,7 @@ module _ {S A E : Type 0} (can : S → Type 0) (gives : S → Option (Result A E
 
   -- `Convert`'s contract.
   abbrev pub convert_contract : Contract S A E
-  convert_contract = std_contract Ok Err can gives remaining
+  convert_contract = record (std_contract Ok Err can gives remaining) { traces = ConvertTrace }
 
 -- `Convert`'s second end.
 abbrev pub convert_ends : {S A E : Type 0} → (can can_back : S → Type 0) (gives gives_back : S → Option (Result A E) → S → Type 0) → (S → Count) → Ends S A E

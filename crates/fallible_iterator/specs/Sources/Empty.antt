@@ -2,7 +2,7 @@
 use Rattle.std.specs.Prelude.{◌≡◌, ℕ, List, replicate, Some, ⊤}
 use Rattle.std.specs.Iterator.{at_most}
 use Rattle.fallible_contract.specs.Traces.{Answered, end}
-use Rattle.fallible_contract.specs.Sound.{own_sound}
+use Rattle.fallible_contract.specs.Sound.{sound_always}
 use Rattle.fallible_contract.specs.Contract.{Contract, no_lenders}
 
 -- `Empty`: only ends.
@@ -11,7 +11,7 @@ EmptyTrace trace = (n : ℕ) × (trace ≡ replicate n end)
 
 -- `Empty`'s contract: nothing may come.
 abbrev pub empty_contract : {S A E : Type 0} → Contract S A E
-empty_contract {A = A} {E = E} = record {
+empty_contract = record {
   can_next = λ _. ⊤;
   steps = λ _ r _. r ≡ end;
   bound = λ _ _. ⊤;
@@ -22,5 +22,5 @@ empty_contract {A = A} {E = E} = record {
   hints = λ _ h. h ≡ (0, Some 0);
   lenders = λ _. no_lenders;
   traces = λ _ trace _. EmptyTrace trace;
-  sound = own_sound {A = A} {E = E} (λ _ r _. r ≡ end);
+  sound = sound_always;
 }

@@ -4,6 +4,7 @@ use Rattle.std.specs.List.{FoldsTo}
 use Rattle.std.specs.Fn.{Called, Mut}
 use Rattle.fallible_contract.specs.Closures.{IsCallable, MayAnswer}
 use Rattle.fallible_contract.specs.Traces.{Answered, item, failure}
+use Rattle.fallible_contract.specs.Sound.{sound_always}
 use Rattle.fallible_contract.specs.Contract.{Contract, unbounded_contract, Inverse}
 use Rattle.fallible_contract.specs.Lists.{AlwaysGives}
 use Rattle.fallible_contract.specs.Showing.{TakesShown}
@@ -34,6 +35,7 @@ module _ {F A E : Type 0} (g : Mut F (Unit {0}) (Answered A E)) where
     may_give = λ f x. MayAnswer (call_of_none g) (λ _. ⊤) f (λ _ r. r ≡ item x);
     may_fail = λ f e. MayAnswer (call_of_none g) (λ _. ⊤) f (λ _ r. r ≡ failure e);
     traces = FromFnTrace;
+    sound = sound_always;
   }
 
 -- Called again and again, the closure returns the list's answers, in order, and then an end.

@@ -28,7 +28,7 @@ module _ {S A : Type 0} (can : S → Type 0) (gives : S → Option A → S → T
 
   -- `IntoFallible`'s contract.
   abbrev pub into_fallible_contract : Contract S A Infallible
-  into_fallible_contract = std_contract (λ x. x) never can gives remaining
+  into_fallible_contract = record (std_contract (λ x. x) never can gives remaining) { traces = IntoFallibleTrace }
 
 -- `IntoFallible`'s second end.
 abbrev pub into_fallible_ends : {S A : Type 0} → (can can_back : S → Type 0) (gives gives_back : S → Option A → S → Type 0) → (S → Count) → Ends S A Infallible

@@ -2,7 +2,7 @@
 use Rattle.std.specs.Prelude.{Option, Some, ◌≡◌, ⊤}
 use Rattle.std.specs.Iterator.{at_most}
 use Rattle.fallible_contract.specs.Traces.{failure}
-use Rattle.fallible_contract.specs.Sound.{own_sound}
+use Rattle.fallible_contract.specs.Sound.{sound_always}
 use Rattle.fallible_contract.specs.Contract.{Contract, no_lenders, Inverse}
 use Rattle.fallible_contract.specs.Held.{OnceTrace, once_step, held_count}
 use Rattle.fallible_iterator.specs.declared.sources.once_err.OnceErr.{OnceErr}
@@ -18,7 +18,7 @@ once_err_made = record { make = λ p. record { item_type = record {}; error = p 
 
 -- `OnceErr`'s contract: no item comes, and what is held is the one failure that may.
 abbrev pub once_err_contract : {A E : Type 0} → Contract (Option E) A E
-once_err_contract {A = A} {E = E} = record {
+once_err_contract = record {
   can_next = λ _. ⊤;
   steps = once_step failure;
   bound = λ _ n. ⊤;
@@ -29,5 +29,5 @@ once_err_contract {A = A} {E = E} = record {
   hints = λ _ h. h ≡ (0, Some 0);
   lenders = λ _. no_lenders;
   traces = OnceTrace failure;
-  sound = own_sound {A = A} {E = E} (once_step failure);
+  sound = sound_always;
 }

@@ -1,6 +1,7 @@
 -- `Repeat`: clones as items.
 use Rattle.std.specs.Prelude.{Some, ◌≡◌, List, None, Ok, Err, ◌^◌, ◌-◌, All}
 use Rattle.fallible_contract.specs.Traces.{Answered, item, failure}
+use Rattle.fallible_contract.specs.Sound.{sound_always}
 use Rattle.fallible_contract.specs.Contract.{Contract, unbounded_contract, Inverse}
 use Rattle.fallible_contract.specs.Refusals.{RefusedAs}
 use Rattle.std.specs.declared.alloc.AllocError.{AllocError}
@@ -33,4 +34,5 @@ module _ {A E : Type 0} (is_clone : A → A → Type 0) (is_infallible : A → T
     may_fail = λ v e. RepeatAnswer v (failure e);
     hints = λ _ h. h ≡ (2 ^ 64 - 1, None);
     traces = RepeatTrace;
+    sound = sound_always;
   }

@@ -2,7 +2,7 @@
 use Rattle.std.specs.Prelude.{Some, ◌≡◌, List, Ok, Err, ⊤, ◌⊎◌, All}
 use Rattle.std.specs.Iterator.{endless}
 use Rattle.fallible_contract.specs.Traces.{Answered, failure}
-use Rattle.fallible_contract.specs.Sound.{own_sound}
+use Rattle.fallible_contract.specs.Sound.{sound_always}
 use Rattle.fallible_contract.specs.Contract.{Contract, no_lenders, Inverse}
 use Rattle.fallible_contract.specs.Refusals.{RefusedAs}
 use Rattle.std.specs.declared.alloc.AllocError.{AllocError}
@@ -40,5 +40,5 @@ module _ {A E : Type 0} (is_clone : E → E → Type 0) (is_infallible : E → T
     hints = λ _ h. h ≡ (0, Some 0);
     lenders = λ _. no_lenders;
     traces = RepeatErrTrace;
-    sound = own_sound (λ v r w. RepeatErrAnswer v r × (w ≡ v));
+    sound = sound_always;
   }

@@ -7,7 +7,8 @@ use Rattle.fallible_contract.specs.Lists.{AlwaysGives, Lists}
 use Rattle.fallible_contract.proofs.Lemmas.Lists.Passing.{lists_seen}
 use Rattle.fallible_core.specs.Cutting.Skip.{skip_step, skip_parts, skip_contract, skipped}
 use Rattle.fallible_core.specs.Cutting.StepBy.{stepped}
-use Rattle.fallible_core.proofs.Lemmas.Cutting.ByNumber.{leaves_one, always_gives_stepped}
+use Rattle.fallible_core.specs.Laws.Hints.ByNumber.{leaves_one}
+use Rattle.fallible_core.proofs.Lemmas.Cutting.ByNumber.{always_gives_stepped}
 use Rattle.fallible_core.specs.declared.cutting.skip.Skip.{Skip}
 use Rattle.fallible_core.specs.Laws.Cutting.Skip.{leaves_of_skip_trace}
 

@@ -9,7 +9,8 @@ use Rattle.fallible_contract.proofs.Lemmas.ByNumber.{Leaves, leaves_from_equal, 
 use Rattle.fallible_core.specs.Cutting.StepBy.{StepByTrace, step_by_step, step_by_parts, step_by_contract, stepped}
 use Rattle.fallible_core.specs.Cutting.Skip.{SkipTrace}
 use Rattle.fallible_core.specs.Laws.Cutting.Skip.{leaves_of_skip_trace}
-use Rattle.fallible_core.proofs.Lemmas.Cutting.ByNumber.{leaves_one, always_gives_stepped}
+use Rattle.fallible_core.specs.Laws.Hints.ByNumber.{leaves_one}
+use Rattle.fallible_core.proofs.Lemmas.Cutting.ByNumber.{always_gives_stepped}
 use Rattle.fallible_core.specs.declared.cutting.step_by.StepBy.{StepBy}
 use Rattle.fallible_core.specs.Laws.Cutting.StepBy.{step_by_leaves_of_step_by_trace, step_by_trace_of_leaves}
 

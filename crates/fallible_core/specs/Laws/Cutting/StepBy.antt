@@ -3,15 +3,21 @@ use Rattle.fallible_contract.specs.Contract.{Contract, Lawful}
 use Rattle.fallible_contract.specs.Laws.ByNumber.{kept_by_draw_by_number, kept_over_all}
 use Rattle.fallible_contract.specs.Laws.WithSteps.{lawful_with_steps}
 use Rattle.fallible_core.specs.Cutting.StepBy.{keeps_at_steps, to_skip_after, step_by_contract, StepByTrace, step_by_step, steps_all}
-use Rattle.std.specs.Prelude.{◌≡◌, ℕ, zero, suc, ◌+◌, ◌-◌, ◌*◌, ◌%◌, ◌≤◌, ◌⊎◌, true, false, List, [], ◌∷◌, ◌↔◌}
-use Rattle.std.proofs.Common.{refl, sym, ap, arith, inl, inr, ◌∙◌}
+use Rattle.std.specs.Prelude.{◌≡◌, ℕ, zero, suc, ◌+◌, ◌-◌, ◌*◌, ◌%◌, ◌≤◌, ◌⊎◌, true, false, Option, option_map, List, [], ◌∷◌, ◌↔◌}
+use Rattle.std.proofs.Common.{refl, sym, ap, subst, arith, inl, inr, ◌∙◌}
 use Rattle.std.proofs.lemmas.Bool.{lt-ltb, le-ltb, le-leb, lt-leb}
 use Rattle.std.proofs.Math.Dec.{eqb-suc-zero}
 use Rattle.std.proofs.Math.Nat.{mul-add-mod_self_left, mod-eq_of_lt}
-use Rattle.fallible_contract.specs.Traces.{Answered, Run}
+use Rattle.fallible_contract.specs.Traces.{Answered, Run, item, end}
 use Rattle.fallible_contract.specs.Laws.LawForm.{IsByAnswers, run_at_one_answer_iff_law, IsTraced}
 use Rattle.fallible_contract.proofs.Lemmas.ByNumber.{Fits, Leaves, none, leaves_nil_same, leaves_first_and_others, leaves_split, kept_by_number_of_leaves, leaves_of_kept_by_number}
-use Rattle.fallible_contract.specs.Laws.Contract.{lawful_with_traces}
+use Rattle.fallible_contract.specs.Hints.{hint_kept, kept_of}
+use Rattle.fallible_contract.specs.Sound.{HintsHold}
+use Rattle.fallible_contract.specs.Laws.Contract.{lawful_with_traces, lawful_with_sound}
+use Rattle.fallible_core.specs.Laws.Hints.Brackets.{Brackets, AsSound}
+use Rattle.fallible_core.specs.Laws.Hints.ByNumber.{leaves_one, brackets_kept}
+use Rattle.fallible_core.specs.Laws.Hints.Drawn.{OneOfOne, as_sound_of_brackets, brackets_where_one_of_one}
+use Rattle.fallible_core.specs.Laws.Hints.Holding.{hold_as_made}
 
 -- ---- numbers
 
@@ -91,5 +97,23 @@ module _ {S A E : Type 0} (steps : S → Answered A E → S → Type 0) where
 pub step_by_traced : {S A E : Type 0} {steps : S → Answered A E → S → Type 0} {traces : S → List (Answered A E) → S → Type 0} → IsTraced steps traces → IsTraced (step_by_step steps) (steps_all traces)
 step_by_traced {steps = steps} law p trace q = let both = step_by_law steps p trace q in let over = kept_over_all law (keeps_at_steps (p.1).0 (p.1).1) (to_skip_after (p.1).0 (p.1).1) p.0 trace q.0 (q.1).1 in ((λ ran. let d = both.0 ran in (over.0 d.0, d.1)), (λ d. both.1 (over.1 d.0, d.1)))
 
+-- ---- where its hints are sound
+
+module _ {S A E : Type 0} (steps : S → Answered A E → S → Type 0) where
+  one_of_one_by_steps : (between : ℕ) → OneOfOne (step_by_step steps) (leaves_one steps between) (λ p. (p.0, (p.1).1)) (λ p. (p.1).0 ≡ between)
+  one_of_one_by_steps between = record {
+    item_of_item = λ p q x e w. let d = step_by_leaves_of_step_by_trace steps {p = p} {q = q} w in (x, subst (λ (b : ℕ). Leaves steps b (p.1).1 p.0 (item x ∷ []) q.0 (q.1).1) e d.0, d.1 ∙ e);
+    end_of_end = λ p q e w. let d = step_by_leaves_of_step_by_trace steps {p = p} {q = q} w in subst (λ (b : ℕ). Leaves steps b (p.1).1 p.0 (end ∷ []) q.0 (q.1).1) e d.0;
+  }
+
+  brackets_step : (p : S × (ℕ × ℕ)) (k : ℕ × Option ℕ) → Brackets steps p.0 k → Brackets (step_by_step steps) p (hint_kept (p.1).0 (p.1).1 k)
+  brackets_step p k b = brackets_where_one_of_one (step_by_step steps) (leaves_one steps (p.1).0) (λ q. (q.0, (q.1).1)) (λ q. (q.1).0 ≡ (p.1).0) (one_of_one_by_steps (p.1).0) p refl (hint_kept (p.1).0 (p.1).1 k) (brackets_kept steps (p.1).0 p.0 (p.1).1 k b)
+
+  as_sound_step : (p : S × (ℕ × ℕ)) (h k : ℕ × Option ℕ) → h ≡ hint_kept (p.1).0 (p.1).1 k → AsSound (step_by_step steps) p h steps p.0 k
+  as_sound_step p h k is = as_sound_of_brackets (step_by_step steps) steps p p.0 (kept_of (p.1).0 (p.1).1) (λ o. option_map (kept_of (p.1).0 (p.1).1) o) (λ j b. brackets_step p j b) h k is
+
+step_by_hold : {S A E : Type 0} (m : Contract S A E) → HintsHold m.steps m.hints m.sound → HintsHold (step_by_step m.steps) (step_by_contract m).hints (step_by_contract m).sound
+step_by_hold m holds = hold_as_made (step_by_step m.steps) (step_by_contract m).hints holds (λ p. p.0) (λ p k. hint_kept (p.1).0 (p.1).1 k) (λ p k. as_sound_step m.steps p (hint_kept (p.1).0 (p.1).1 k) k refl)
+
 pub lawful_step_by : {S A E : Type 0} {m : Contract S A E} → Lawful m → Lawful (step_by_contract m)
-lawful_step_by {m = m} l = lawful_with_traces (steps_all m.traces) (step_by_traced l.traced) (lawful_with_steps (λ p r q c step. kept_by_draw_by_number m (keeps_at_steps (p.1).0 (p.1).1) l (to_skip_after (p.1).0 (p.1).1) p.0 q.0 r (q.1).1 c step.0) l)
+lawful_step_by {m = m} l = lawful_with_sound (step_by_hold m l.hold) (lawful_with_traces (steps_all m.traces) (step_by_traced l.traced) (lawful_with_steps (λ p r q c step. kept_by_draw_by_number m (keeps_at_steps (p.1).0 (p.1).1) l (to_skip_after (p.1).0 (p.1).1) p.0 q.0 r (q.1).1 c step.0) l))

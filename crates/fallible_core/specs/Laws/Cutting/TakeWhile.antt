@@ -16,7 +16,8 @@ use Rattle.std.specs.List.{FoldsTo, filter_map}
 use Rattle.fallible_contract.specs.Closing.{closing_step}
 use Rattle.fallible_contract.proofs.Lemmas.Closing.{closing_folds_iff_drawn_to_close}
 use Rattle.fallible_contract.specs.Laws.LawForm.{IsTraced, run_of_whole_list, list_is_trace}
-use Rattle.fallible_contract.specs.Laws.Contract.{lawful_with_traces}
+use Rattle.fallible_contract.specs.Laws.Contract.{lawful_with_traces, lawful_with_sound}
+use Rattle.fallible_core.specs.Laws.Hints.Cutting.{take_while_hold}
 
 module _ {S F X E : Type 0} (m : Contract S X E) (l : Lawful m) (g : Mut F (Bor X × Unit {0}) (Result Bool E)) where
   abbrev TakeWhileContract : Contract (S × F) X E
@@ -71,4 +72,4 @@ take_while_traced {X = X} {E = E} {steps = steps} law call p trace q = let both 
 )
 
 pub lawful_take_while : {S F X E : Type 0} {m : Contract S X E} (g : Mut F (Bor X × Unit {0}) (Result Bool E)) → Lawful m → Lawful (take_while_contract m g)
-lawful_take_while {m = m} g l = lawful_with_traces (takes_while_all m.traces (call_by_reference g)) (take_while_traced l.traced (call_by_reference g)) (lawful_closing (place_drawn m.steps (call_by_reference g)) taken_answer is_refused (kept_by_draw_taken m l g) (lawful_taking m l g))
+lawful_take_while {m = m} g l = lawful_with_sound (take_while_hold m (call_by_reference g) l.hold) (lawful_with_traces (takes_while_all m.traces (call_by_reference g)) (take_while_traced l.traced (call_by_reference g)) (lawful_closing (place_drawn m.steps (call_by_reference g)) taken_answer is_refused (kept_by_draw_taken m l g) (lawful_taking m l g)))

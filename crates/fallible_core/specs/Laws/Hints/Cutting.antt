@@ -1,15 +1,17 @@
 -- Hints of the adapters that cut a trace off.
-use Rattle.std.specs.Prelude.{◌≡◌, ℕ, zero, suc, ◌+◌, ◌≤◌, min, List, [], ◌∷◌, length, Option, Some, None, Ok, Err, IfSome, Bool, true, false, option_map, ◌⊎◌}
+use Rattle.std.specs.Prelude.{◌≡◌, ℕ, zero, suc, ◌+◌, ◌≤◌, min, List, [], ◌∷◌, length, Option, Result, Some, None, Ok, Err, IfSome, Bool, true, false, option_map, ◌⊎◌}
 use Rattle.std.proofs.Common.{refl, sym, ap, subst, ◌∙◌, arith, inl, inr}
 use Rattle.fallible_contract.specs.Traces.{Answered, Yields, item, end, is_end}
 use Rattle.fallible_contract.specs.Closing.{closing_step, closing_hints}
-use Rattle.fallible_contract.specs.Hints.{hint_up_to}
-use Rattle.fallible_core.specs.Cutting.Take.{take_step, as_made}
+use Rattle.fallible_contract.specs.Hints.{hint_up_to, upper_alone}
+use Rattle.fallible_contract.specs.Passing.{Place, asked, failure_at, end_at, source_answer}
+use Rattle.fallible_core.specs.Cutting.Take.{take_step}
+use Rattle.fallible_core.specs.Cutting.TakeWhile.{taken_answer, is_refused, place_drawn}
 use Rattle.fallible_core.specs.Laws.Hints.Brackets.{Brackets, AsSound}
-use Rattle.fallible_core.specs.Laws.Hints.Drawn.{as_sound_of_brackets, OneOfOne, brackets_zero_where_no_item, as_sound_where_one_of_one}
-use Rattle.fallible_core.specs.Laws.Hints.Holding.{hold_as_made, hold_once}
+use Rattle.fallible_core.specs.Laws.Hints.Drawn.{as_sound_of_brackets, ItemsOfItems, OneOfOne, brackets_zero_where_no_item, as_sound_where_one_of_one, as_sound_upper_alone_of_source}
+use Rattle.fallible_core.specs.Laws.Hints.Holding.{hold_as_made, hold_once, hold_once_above}
 use Rattle.fallible_contract.specs.Contract.{Contract}
-use Rattle.fallible_contract.specs.Sound.{HintsHold, as_source, sound_once}
+use Rattle.fallible_contract.specs.Sound.{HintsHold, as_source, above_as_source, as_made, sound_once}
 
 -- ---- what is closed
 
@@ -51,6 +53,26 @@ module _ {S A E : Type 0} (steps : S → Answered A E → S → Type 0) where
   pub one_of_one_fuse : OneOfOne fuse_step steps (λ p. p.0) (λ p. p.1 ≡ false)
   one_of_one_fuse = record { item_of_item = λ p q x e w. source_gives_item_where_open_fuse_gives p q x e w; end_of_end = λ p q e w. source_ends_where_open_fuse_ends p q e w }
 
+-- ---- `TakeWhile`
+
+module _ {S F X E : Type 0} (steps : S → Answered X E → S → Type 0) (call : F → X → Result Bool E → F → Type 0) where
+  abbrev pub take_while_step : (S × F) × Bool → Answered X E → (S × F) × Bool → Type 0
+  take_while_step = closing_step (place_drawn steps call) taken_answer is_refused
+
+  source_answer_is_item_where_item_taken : (x : Place X (Result Bool E) E) (y : X) → item y ≡ taken_answer x → (z : X) × (source_answer x ≡ item z) × (is_refused x ≡ false)
+  source_answer_is_item_where_item_taken (asked z (Ok true)) y e = (z, refl, refl)
+  source_answer_is_item_where_item_taken (asked z (Ok false)) y e = absurd cc
+  source_answer_is_item_where_item_taken (asked z (Err d)) y e = absurd cc
+  source_answer_is_item_where_item_taken (failure_at d) y e = absurd cc
+  source_answer_is_item_where_item_taken end_at y e = absurd cc
+
+  source_yields_where_item_taken : (p q : (S × F) × Bool) (y : X) → p.1 ≡ false → take_while_step p (item y) q → (xs : List X) × Yields steps (p.0).0 xs (q.0).0 × (1 ≤ length xs) × (q.1 ≡ false)
+  source_yields_where_item_taken (p, true) q y e w = absurd cc
+  source_yields_where_item_taken (p, false) q y e w = let d = source_answer_is_item_where_item_taken w.0 y w.2 in (d.0 ∷ [], ((q.0).0, subst (λ (r : Answered X E). steps p.0 r (q.0).0) d.1 w.1.0, refl), omega arith, w.3 ∙ d.2)
+
+  pub items_of_items_take_while : ItemsOfItems take_while_step steps (λ p. (p.0).0) (λ p. p.1 ≡ false)
+  items_of_items_take_while = record { items_of_item = λ p q y e w. source_yields_where_item_taken p q y e w }
+
 -- ---- `Take`
 
 module _ {S A E : Type 0} (steps : S → Answered A E → S → Type 0) where
@@ -91,3 +113,16 @@ module _ {S A E : Type 0} (m : Contract S A E) (holds : HintsHold m.steps m.hint
 
   pub fuse_hold : HintsHold (fuse_step m.steps) (closing_hints m.hints) (sound_once (λ p. p.1 ≡ true) (as_source (λ p. p.0) m.sound))
   fuse_hold = hold_once (fuse_step m.steps) (closing_hints m.hints) holds (λ p. p.0) (λ p. p.1 ≡ true) ended_or_open
+
+-- `TakeWhile`: nothing comes once an item was rejected
+module _ {S F X E : Type 0} (m : Contract S X E) (call : F → X → Result Bool E → F → Type 0) (holds : HintsHold m.steps m.hints m.sound) where
+  -- until an item is rejected it has the source's upper bound alone
+  abbrev pub take_while_hints : (S × F) × Bool → ℕ × Option ℕ → Type 0
+  take_while_hints = closing_hints (λ p h. upper_alone m p.0 h)
+
+  refused_or_open : (p : (S × F) × Bool) (h : ℕ × Option ℕ) → take_while_hints p h → Brackets (take_while_step m.steps call) p h ⊎ (((p.1 ≡ true) → ⊥) × (k : ℕ × Option ℕ) × m.hints (p.0).0 k × (h ≡ (0, k.1)) × AsSound (take_while_step m.steps call) p h m.steps (p.0).0 k)
+  refused_or_open (q, true) h is = inl (brackets_closed (place_drawn m.steps call) taken_answer is_refused (λ p h. upper_alone m p.0 h) (q, true) h refl is)
+  refused_or_open (q, false) h is = inr ((λ e. absurd cc), is.0, is.1, is.2, as_sound_upper_alone_of_source _ _ _ _ (items_of_items_take_while m.steps call) (q, false) refl is.0 h is.2)
+
+  pub take_while_hold : HintsHold (take_while_step m.steps call) take_while_hints (sound_once (λ p. p.1 ≡ true) (above_as_source (λ p. (p.0).0) m.sound))
+  take_while_hold = hold_once_above (take_while_step m.steps call) take_while_hints holds (λ p. (p.0).0) (λ p. p.1 ≡ true) refused_or_open

@@ -4,14 +4,16 @@ use Rattle.std.proofs.Common.{refl, sym, ap, subst, ◌∙◌, arith, inl, inr}
 use Rattle.std.proofs.lemmas.Bool.{cases_lt, lt-ltb, le-ltb}
 use Rattle.fallible_contract.specs.Traces.{Answered, Yields, item, end, is_end}
 use Rattle.fallible_contract.specs.Contract.{Contract}
-use Rattle.fallible_contract.specs.Hints.{hint_sum, hint_smaller, fitting_sum, smaller_bound}
+use Rattle.fallible_contract.specs.Hints.{hint_sum, hint_smaller, fitting_sum, smaller_bound, cycle_hint}
 use Rattle.fallible_core.specs.Joining.Chain.{chain_step, chain_hints, chain_back, as_sides, sides_above, sides_below}
+use Rattle.fallible_core.specs.Joining.Cycle.{cycle_step, as_clones}
 use Rattle.fallible_core.specs.Joining.Zip.{ZipPlace, left_failed, both_drawn, left_answer, zip_answer, right_step, zip_step, zip_contract}
-use Rattle.fallible_contract.specs.Sound.{HintsHold, as_both}
+use Rattle.fallible_contract.specs.Sound.{HintsHold, as_made_of_both, sound_always}
 use Rattle.fallible_contract.specs.Laws.Sound.{hold_seen}
-use Rattle.fallible_core.specs.Laws.Hints.Holding.{hold_as_both}
+use Rattle.fallible_core.specs.Laws.Hints.Holding.{hold_as_made_of_both, hold_always}
 use Rattle.fallible_core.specs.Laws.Hints.Brackets.{BoundsAbove, BoundsBelow, Brackets, AsSound, AsSoundAsBoth}
-use Rattle.fallible_core.specs.Laws.Hints.Drawn.{as_sound_as_both_of_brackets, OneOfOne, ItemOfItem, pair_of_parts, source_yields_as_many, as_sound_where_one_of_one}
+use Rattle.fallible_core.specs.Laws.Hints.Drawn.{as_sound_as_both_of_brackets, OneOfOne, ItemOfItem, pair_of_parts, source_yields_as_many, as_sound_where_one_of_one, brackets_any_lower_where_no_end, brackets_nothing_said, brackets_of_equal_hint}
+use Rattle.std.specs.declared.alloc.AllocError.{AllocError}
 use Rattle.fallible_core.specs.declared.joining.chain.StillDrawn.{StillDrawn}
 use Rattle.fallible_core.specs.declared.joining.chain.StillDrawn.TheVariants.{Both, FirstAlone, SecondAlone}
 
@@ -198,17 +200,50 @@ module _ {S U A B E : Type 0} (steps : S → Answered A E → S → Type 0) (oth
   pub as_sound_as_both_zip : (p : S × U) (h g k : ℕ × Option ℕ) → h ≡ hint_smaller g k → AsSoundAsBoth zipped_step p h steps p.0 g others p.1 k
   as_sound_as_both_zip p h g k is = as_sound_as_both_of_brackets zipped_step steps others p p.0 p.1 min smaller_bound (λ f b i j. brackets_zip_by_smaller_hint p f b i j) h g k is
 
+-- ---- `Cycle`
+
+module _ {S A E : Type 0} (is_clone : S → S → Type 0) (is_infallible : S → Type 0) (from : AllocError → E → Type 0) (steps : S → Answered A E → S → Type 0) where
+  abbrev cycled_step : S × S → Answered A E → S × S → Type 0
+  cycled_step = cycle_step is_clone is_infallible from steps
+
+  cycle_kept_stays : (xs : List A) (p q : S × S) → Yields cycled_step p xs q → q.1 ≡ p.1
+  cycle_kept_stays [] p q ran = sym (ap (λ (z : S × S). z.1) ran)
+  cycle_kept_stays (x ∷ xs) p q ran = cycle_kept_stays xs ran.0 q ran.2 ∙ ran.1.0
+
+  -- an end comes only where a clone returns one at once
+  clone_ends_where_cycle_ends : (p q : S × S) → cycled_step p end q → (c : S) × is_clone p.1 c × steps c end q.0
+  clone_ends_where_cycle_ends p q w = elim w.1 [
+    | inl d ↦ absurd (let no : is_end {A = A} {E = E} end ≡ false = d.1 in cc)
+    | inr d ↦ elim d [
+      | inl e ↦ (e.1, e.3, e.4)
+      | inr e ↦ absurd (let no = e.2 in cc)
+    ]
+  ]
+
+  -- where the lower bound bounds what comes from each clone of the kept source
+  pub brackets_cycle : (p : S × S) (k : ℕ × Option ℕ) → ((c : S) → is_clone p.1 c → BoundsBelow steps c k.0) → Brackets cycled_step p (cycle_hint k)
+  brackets_cycle p (zero, high) b = brackets_nothing_said cycled_step p
+  brackets_cycle p (suc low, high) b = brackets_any_lower_where_no_end cycled_step p (2 ^ 64 - 1) (λ xs q z ran w.
+      let d = clone_ends_where_cycle_ends q z w in
+      let is : is_clone p.1 d.0 = subst (λ (k : S). is_clone k d.0) (cycle_kept_stays xs p q ran) d.1 in
+      let few : suc low ≤ 0 = b d.0 is [] d.0 z.0 refl d.2 in
+      omega (arith, few))
+
+  -- it has no upper bound
+  bounds_above_cycle : (p : S × S) (k : ℕ × Option ℕ) → BoundsAbove cycled_step p (cycle_hint k).1
+  bounds_above_cycle p (zero, high) xs t ran = tt
+  bounds_above_cycle p (suc low, high) xs t ran = tt
 
 -- ---- where they are sound
 
 module _ {S U A E : Type 0} (m : Contract S A E) (n : Contract U A E) (holds : HintsHold m.steps m.hints m.sound) (others : HintsHold n.steps n.hints n.sound) where
   chain_above : (p : S × U × StillDrawn) (h : ℕ × Option ℕ) → chain_hints m n p h → sides_above m.hints m.sound n.hints n.sound p h.1 → BoundsAbove (chain_step m.steps n.steps) p h.1
-  chain_above (s, u, Both) h is a = (as_sound_as_both_of_joining m.steps n.steps (s, u, Both) h is.0 is.1 refl is.4).above (holds.above s is.0 is.2 (a.0 is.0 is.2)) (others.above u is.1 is.3 (a.1 is.1 is.3))
+  chain_above (s, u, Both) h is a = subst (λ (o : Option ℕ). BoundsAbove (chain_step m.steps n.steps) (s, u, Both) o) (sym a.4) ((as_sound_as_both_of_joining m.steps n.steps (s, u, Both) (hint_sum a.0 a.1) a.0 a.1 refl refl).above (holds.above s a.0 a.2 a.5) (others.above u a.1 a.3 a.6))
   chain_above (s, u, FirstAlone) h is a = (as_sound_where_one_of_one _ _ _ _ (one_of_one_where_first_alone m.steps n.steps) (s, u, FirstAlone) refl h).above (holds.above s h is a)
   chain_above (s, u, SecondAlone) h is a = (as_sound_where_one_of_one _ _ _ _ (one_of_one_where_second_alone m.steps n.steps) (s, u, SecondAlone) refl h).above (others.above u h is a)
 
   chain_below : (p : S × U × StillDrawn) (h : ℕ × Option ℕ) → chain_hints m n p h → sides_below m.hints m.sound n.hints n.sound p h.0 → BoundsBelow (chain_step m.steps n.steps) p h.0
-  chain_below (s, u, Both) h is b = (as_sound_as_both_of_joining m.steps n.steps (s, u, Both) h is.0 is.1 refl is.4).below (holds.below s is.0 is.2 (b.0 is.0 is.2)) (others.below u is.1 is.3 (b.1 is.1 is.3))
+  chain_below (s, u, Both) h is b = subst (λ (i : ℕ). BoundsBelow (chain_step m.steps n.steps) (s, u, Both) i) (sym b.4) ((as_sound_as_both_of_joining m.steps n.steps (s, u, Both) (hint_sum b.0 b.1) b.0 b.1 refl refl).below (holds.below s b.0 b.2 b.5) (others.below u b.1 b.3 b.6))
   chain_below (s, u, FirstAlone) h is b = (as_sound_where_one_of_one _ _ _ _ (one_of_one_where_first_alone m.steps n.steps) (s, u, FirstAlone) refl h).below (holds.below s h is b)
   chain_below (s, u, SecondAlone) h is b = (as_sound_where_one_of_one _ _ _ _ (one_of_one_where_second_alone m.steps n.steps) (s, u, SecondAlone) refl h).below (others.below u h is b)
 
@@ -222,12 +257,12 @@ module _ {S U A E : Type 0} (m : Contract S A E) (n : Contract U A E) where
   chain_hints_swapped (s, u, SecondAlone) h is = is
 
   sides_above_swapped : (p : S × U × StillDrawn) (high : Option ℕ) → sides_above m.hints m.sound n.hints n.sound p high → sides_above n.hints n.sound m.hints m.sound (chain_back p) high
-  sides_above_swapped (s, u, Both) high a = (a.1, a.0)
+  sides_above_swapped (s, u, Both) high a = (a.1, a.0, a.3, a.2, a.4 ∙ ap (λ (z : ℕ × Option ℕ). z.1) (hint_sum_swapped a.0 a.1), a.6, a.5)
   sides_above_swapped (s, u, FirstAlone) high a = a
   sides_above_swapped (s, u, SecondAlone) high a = a
 
   sides_below_swapped : (p : S × U × StillDrawn) (low : ℕ) → sides_below m.hints m.sound n.hints n.sound p low → sides_below n.hints n.sound m.hints m.sound (chain_back p) low
-  sides_below_swapped (s, u, Both) low b = (b.1, b.0)
+  sides_below_swapped (s, u, Both) low b = (b.1, b.0, b.3, b.2, b.4 ∙ ap (λ (z : ℕ × Option ℕ). z.0) (hint_sum_swapped b.0 b.1), b.6, b.5)
   sides_below_swapped (s, u, FirstAlone) low b = b
   sides_below_swapped (s, u, SecondAlone) low b = b
 
@@ -238,5 +273,16 @@ module _ {S U A E : Type 0} (m : Contract S A E) (n : Contract U A E) where
     below = λ p h is b. back.below p h (chain_hints_swapped p h is) (sides_below_swapped p h.0 b);
   }
 
-pub zip_hold : {S U A B E : Type 0} (m : Contract S A E) (n : Contract U B E) → HintsHold m.steps m.hints m.sound → HintsHold n.steps n.hints n.sound → HintsHold (zip_step m.steps n.steps) (zip_contract m n).hints (as_both (λ p. p.0) (λ p. p.1) m.hints m.sound n.hints n.sound)
-zip_hold m n holds others = hold_as_both (zip_step m.steps n.steps) (zip_contract m n).hints holds others (λ p. p.0) (λ p. p.1) (λ p h is. (is.0, is.1, is.2, is.3, as_sound_as_both_zip m.steps n.steps p h is.0 is.1 is.4))
+pub zip_hold : {S U A B E : Type 0} (m : Contract S A E) (n : Contract U B E) → HintsHold m.steps m.hints m.sound → HintsHold n.steps n.hints n.sound → HintsHold (zip_step m.steps n.steps) (zip_contract m n).hints (as_made_of_both (λ p. p.0) (λ p. p.1) m.hints m.sound n.hints n.sound hint_smaller)
+zip_hold m n holds others = hold_as_made_of_both (zip_step m.steps n.steps) (zip_contract m n).hints holds others (λ p. p.0) (λ p. p.1) hint_smaller (λ p j k. as_sound_as_both_zip m.steps n.steps p (hint_smaller j k) j k refl)
+
+module _ {S A E : Type 0} (is_clone : S → S → Type 0) (is_infallible : S → Type 0) (from : AllocError → E → Type 0) (m : Contract S A E) where
+  pub cycle_hold : HintsHold (cycle_step is_clone is_infallible from m.steps) (λ p h. (k : ℕ × Option ℕ) × m.hints p.1 k × (h ≡ cycle_hint k)) (as_clones is_clone m)
+  cycle_hold = record {
+    above = λ p h is a. subst (λ (j : ℕ × Option ℕ). BoundsAbove (cycle_step is_clone is_infallible from m.steps) p j.1) (sym is.2) (bounds_above_cycle is_clone is_infallible from m.steps p is.0);
+    below = λ p h is b. subst (λ (n : ℕ). BoundsBelow (cycle_step is_clone is_infallible from m.steps) p n) (sym b.2) (brackets_cycle is_clone is_infallible from m.steps p b.0 b.3).below;
+  }
+
+-- `Flatten` says nothing of how many come
+pub flatten_hold : {V B E : Type 0} (steps : V → Answered B E → V → Type 0) → HintsHold steps (λ s h. h ≡ (0, None)) sound_always
+flatten_hold steps = hold_always steps (λ s h. h ≡ (0, None)) (λ s h is. brackets_of_equal_hint steps s is (brackets_nothing_said steps s))

@@ -2,10 +2,10 @@
 use Rattle.std.specs.Prelude.{Some, None, Ok, Err, ⊤}
 use Rattle.std.proofs.Common.{refl, inl, inr}
 use Rattle.fallible_contract.specs.Traces.{Answered, end}
-use Rattle.fallible_contract.specs.Laws.Sound.{own_hold}
 use Rattle.fallible_contract.specs.Contract.{Contract, OnAnswer, KeptByDraw, Lawful}
 use Rattle.fallible_contract.specs.Laws.BoundsRuns.{bounds_runs_by_fewer_after_item, bounds_runs_by_no_more_after_failure, bounds_runs_by_no_more_after_end, bound_stays}
 use Rattle.fallible_core.specs.Joining.Cycle.{CycleAnswer, cycle_contract}
+use Rattle.fallible_core.specs.Laws.Hints.Joining.{cycle_hold}
 use Rattle.fallible_core.specs.Laws.Joining.CycleTraces.{cycle_traced}
 use Rattle.std.specs.declared.alloc.AllocError.{AllocError}
 
@@ -58,4 +58,4 @@ module _ {S A E : Type 0} (is_clone : S → S → Type 0) (is_infallible : S →
   kept_by_draw_cycle_parts l (s, k) r (t, k') c step = rw step.0 (kept_by_draw_cycle l s t k r c step.1)
 
 pub lawful_cycle : {S A E : Type 0} {m : Contract S A E} (is_clone : S → S → Type 0) (is_infallible : S → Type 0) (from : AllocError → E → Type 0) → Lawful m → Lawful (cycle_contract is_clone is_infallible from m)
-lawful_cycle {m = m} is_clone is_infallible from l = record { kept_by_draw = kept_by_draw_cycle_parts is_clone is_infallible from m l; bounded = λ p. ((λ e. e), (λ h. h)); traced = cycle_traced is_clone is_infallible from l.traced; hold = own_hold }
+lawful_cycle {m = m} is_clone is_infallible from l = record { kept_by_draw = kept_by_draw_cycle_parts is_clone is_infallible from m l; bounded = λ p. ((λ e. e), (λ h. h)); traced = cycle_traced is_clone is_infallible from l.traced; hold = cycle_hold is_clone is_infallible from m }

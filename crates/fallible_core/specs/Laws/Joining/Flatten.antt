@@ -3,10 +3,10 @@ use Rattle.std.specs.Prelude.{ℕ, ◌+◌, ◌*◌, ◌≤◌, ◌<◌, [], ◌
 use Rattle.std.proofs.Common.{refl, sym, arith, inl, inr}
 use Rattle.std.proofs.Math.Nat.{mul-suc, mul-le-mul_left}
 use Rattle.fallible_contract.specs.Traces.{Answered, item, failure, end}
-use Rattle.fallible_contract.specs.Laws.Sound.{own_hold}
 use Rattle.fallible_contract.specs.Contract.{Contract, OnAnswer, KeptByDraw, KeptByDraws, Lawful}
 use Rattle.fallible_contract.specs.Laws.Contract.{no_more_after, kept_by_draw_from_before_draws}
 use Rattle.fallible_core.specs.Joining.Flatten.{flatten_contract, NumberInHand, SomeInner, EachInner, FlattenNumber}
+use Rattle.fallible_core.specs.Laws.Hints.Joining.{flatten_hold}
 use Rattle.fallible_core.specs.Laws.Joining.FlattenTraces.{Flattens, gives, fails, finishes, begins, outer_fails, outer_ends, done, flattens_of_flatten_trace, flatten_traced}
 
 module _ {S X C B E : Type 0} (m : Contract S X E) (l : Lawful m) (into : X → C → Type 0) (inner : Contract C B E) (k : Lawful inner) where
@@ -107,7 +107,7 @@ module _ {S X C B E : Type 0} (m : Contract S X E) (l : Lawful m) (into : X → 
   lawful_flatten = record {
     kept_by_draw = λ p r q can step. kept_by_draw_flattens p.0 q.0 p.1 q.1 r can (flattens_of_flatten_trace m.steps into inner.steps p.0 q.0 p.1 q.1 (r ∷ []) step);
     traced = flatten_traced into l.traced k.traced;
-    hold = own_hold;
+    hold = flatten_hold FlattenContract.steps;
     bounded = λ p. (
       (λ e. let a = (l.bounded p.0).0 e.0 in let j = number_in_hand_where_inner_is_finite p.1 e.1 in (e.2.0 * a.0 + j.0, record { outer = a.0; each = e.2.0; in_hand = j.0; outer_is = a.1; each_is = e.2.1; in_hand_is = j.1; sum = omega arith })),
       (λ n. let b = n.1 in ((l.bounded p.0).1 (b.outer, b.outer_is), inner_is_finite_of_number p.1 b.in_hand b.in_hand_is, (b.each, b.each_is))),

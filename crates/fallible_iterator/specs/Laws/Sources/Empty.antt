@@ -2,9 +2,9 @@
 use Rattle.std.specs.Prelude.{◌≡◌, ℕ, List, [], ◌∷◌, replicate, ◌↔◌}
 use Rattle.std.proofs.Common.{sym, subst, arith, refl, suc, zero}
 use Rattle.fallible_contract.specs.Traces.{Answered, end, Run}
-use Rattle.fallible_contract.specs.Laws.Sound.{own_hold}
 use Rattle.fallible_contract.specs.Contract.{Contract, KeptByDraw, Lawful}
 use Rattle.fallible_iterator.specs.Sources.Empty.{empty_contract, EmptyTrace}
+use Rattle.fallible_iterator.specs.Laws.Sources.Hints.{empty_hold}
 
 -- ---- ends alone
 
@@ -31,4 +31,4 @@ module _ {S A E : Type 0} where
   kept_by_draw_empty s t r e = subst (λ (q : Answered A E). KeptByDraw EmptyContract s q t) (sym e) (record { can_next = tt; is_finite = λ h. h; answer = ((λ n b. (n, tt, omega arith)), (λ f. (f, omega arith))); may_give = λ x h. h; may_fail = λ d h. h; lenders = refl })
 
   pub lawful_empty : ((s t : S) → s ≡ t) → Lawful EmptyContract
-  lawful_empty same = record { kept_by_draw = λ s r t c e. kept_by_draw_empty s t r e; bounded = λ s. ((λ e. (0, tt)), (λ p. tt)); hold = own_hold; traced = λ s trace t. runs_are_empty_traces same trace s t }
+  lawful_empty same = record { kept_by_draw = λ s r t c e. kept_by_draw_empty s t r e; bounded = λ s. ((λ e. (0, tt)), (λ p. tt)); hold = empty_hold; traced = λ s trace t. runs_are_empty_traces same trace s t }

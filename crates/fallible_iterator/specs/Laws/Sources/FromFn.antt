@@ -6,9 +6,9 @@ use Rattle.fallible_contract.specs.Closures.{Reaches}
 use Rattle.fallible_contract.specs.Laws.BoundsRuns.{bounds_runs_by_fewer_after_item, bounds_runs_by_no_more_after_failure, bounds_runs_by_no_more_after_end, bound_stays}
 use Rattle.fallible_contract.specs.Laws.Closures.{reaches_reflexive, reaches_by_call_first, is_callable_after, may_answer_of_call, may_answer_where_reached_may_answer}
 use Rattle.fallible_contract.specs.Traces.{Answered, item, failure}
-use Rattle.fallible_contract.specs.Laws.Sound.{own_hold}
 use Rattle.fallible_contract.specs.Contract.{Contract, OnAnswer, Lawful}
 use Rattle.fallible_iterator.specs.Sources.FromFn.{call_of_none, from_fn_contract}
+use Rattle.fallible_iterator.specs.Laws.Sources.Hints.{from_fn_hold}
 
 module _ {F A E : Type 0} (g : Mut F (Unit {0}) (Answered A E)) where
   abbrev FromFnContract : Contract F A E
@@ -33,5 +33,6 @@ module _ {F A E : Type 0} (g : Mut F (Unit {0}) (Answered A E)) where
       lenders = refl;
     };
     bounded = λ f. ((λ e. e), (λ p. p));
-    hold = own_hold; traced = λ _ _ _. ((λ h. h), (λ h. h));
+    hold = from_fn_hold (λ f r h. Called g f tt r h);
+    traced = λ _ _ _. ((λ h. h), (λ h. h));
   }

@@ -2,10 +2,10 @@
 use Rattle.std.specs.Prelude.{Option, Some, None}
 use Rattle.std.proofs.Common.{refl, sym, subst, arith}
 use Rattle.fallible_contract.specs.Traces.{Answered, item, end}
-use Rattle.fallible_contract.specs.Laws.Sound.{own_hold}
 use Rattle.fallible_contract.specs.Contract.{Contract, KeptByDraw, Lawful}
 use Rattle.fallible_contract.specs.Held.{held_count, once_step}
 use Rattle.fallible_iterator.specs.Sources.Once.{once_contract}
+use Rattle.fallible_iterator.specs.Laws.Sources.Hints.{once_hold}
 use Rattle.fallible_contract.proofs.Lemmas.Held.{once_run_iff_once_trace}
 
 module _ {A E : Type 0} where
@@ -23,4 +23,4 @@ module _ {A E : Type 0} where
   kept_by_draw_once None r w step = subst (λ (q : Answered A E). KeptByDraw OnceContract None q w) (sym step.0) (subst (λ (u : Option A). KeptByDraw OnceContract None end u) (sym step.1) kept_by_draw_once_ended)
 
   pub lawful_once : Lawful OnceContract
-  lawful_once = record { kept_by_draw = λ v r w c step. kept_by_draw_once v r w step; bounded = λ v. ((λ e. (held_count v, omega arith)), (λ p. tt)); hold = own_hold; traced = once_run_iff_once_trace item }
+  lawful_once = record { kept_by_draw = λ v r w c step. kept_by_draw_once v r w step; bounded = λ v. ((λ e. (held_count v, omega arith)), (λ p. tt)); hold = once_hold; traced = once_run_iff_once_trace item }

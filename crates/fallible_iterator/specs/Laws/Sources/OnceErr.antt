@@ -2,10 +2,10 @@
 use Rattle.std.specs.Prelude.{Option, Some, None}
 use Rattle.std.proofs.Common.{refl, sym, subst, arith}
 use Rattle.fallible_contract.specs.Traces.{Answered, failure, end}
-use Rattle.fallible_contract.specs.Laws.Sound.{own_hold}
 use Rattle.fallible_contract.specs.Contract.{Contract, KeptByDraw, Lawful}
 use Rattle.fallible_contract.specs.Held.{once_step}
 use Rattle.fallible_iterator.specs.Sources.OnceErr.{once_err_contract}
+use Rattle.fallible_iterator.specs.Laws.Sources.Hints.{once_err_hold}
 use Rattle.fallible_contract.proofs.Lemmas.Held.{once_run_iff_once_trace}
 
 module _ {A E : Type 0} where
@@ -23,4 +23,4 @@ module _ {A E : Type 0} where
   kept_by_draw_once_err None r w step = subst (λ (q : Answered A E). KeptByDraw OnceErrContract None q w) (sym step.0) (subst (λ (u : Option E). KeptByDraw OnceErrContract None end u) (sym step.1) kept_by_draw_once_err_ended)
 
   pub lawful_once_err : Lawful OnceErrContract
-  lawful_once_err = record { kept_by_draw = λ v r w c step. kept_by_draw_once_err v r w step; bounded = λ v. ((λ e. (0, tt)), (λ p. tt)); hold = own_hold; traced = once_run_iff_once_trace failure }
+  lawful_once_err = record { kept_by_draw = λ v r w c step. kept_by_draw_once_err v r w step; bounded = λ v. ((λ e. (0, tt)), (λ p. tt)); hold = once_err_hold; traced = once_run_iff_once_trace failure }

@@ -3,9 +3,9 @@ use Rattle.std.specs.Prelude.{Some, None, Ok, Err, ◌≡◌, List, [], ◌∷�
 use Rattle.std.proofs.Common.{refl, sym, subst}
 use Rattle.fallible_contract.specs.Laws.BoundsRuns.{bounds_runs_by_fewer_after_item, bounds_runs_by_no_more_after_failure}
 use Rattle.fallible_contract.specs.Traces.{Answered, Run}
-use Rattle.fallible_contract.specs.Laws.Sound.{own_hold}
 use Rattle.fallible_contract.specs.Contract.{Contract, OnAnswer, KeptByDraw, Lawful}
 use Rattle.fallible_iterator.specs.Sources.Repeat.{RepeatAnswer, repeat_contract}
+use Rattle.fallible_iterator.specs.Laws.Sources.Hints.{repeat_hold}
 use Rattle.std.specs.declared.alloc.AllocError.{AllocError}
 use Rattle.std.proofs.lemmas.List.Elements.{All-nil, All-cons, All-head, All-tail}
 
@@ -39,4 +39,4 @@ module _ {A E : Type 0} (is_clone : A → A → Type 0) (is_infallible : A → T
   kept_by_draw_repeat v r w step = subst (λ (u : A). KeptByDraw RepeatContract v r u) (sym step.1) (record { can_next = tt; is_finite = λ e. e; answer = on_answer_of_repeat v r step.0; may_give = λ x h. h; may_fail = λ e h. h; lenders = refl })
 
   pub lawful_repeat : Lawful RepeatContract
-  lawful_repeat = record { kept_by_draw = λ v r w c step. kept_by_draw_repeat v r w step; bounded = λ v. ((λ e. e), (λ p. p)); hold = own_hold; traced = run_again_is_all_such_answers (RepeatAnswer is_clone is_infallible from) }
+  lawful_repeat = record { kept_by_draw = λ v r w c step. kept_by_draw_repeat v r w step; bounded = λ v. ((λ e. e), (λ p. p)); hold = repeat_hold is_clone is_infallible from; traced = run_again_is_all_such_answers (RepeatAnswer is_clone is_infallible from) }

@@ -2,11 +2,11 @@
 use Rattle.std.specs.Prelude.{Some, None, Ok, Err}
 use Rattle.std.proofs.Common.{sym, subst, arith, refl}
 use Rattle.fallible_contract.specs.Traces.{Answered}
-use Rattle.fallible_contract.specs.Laws.Sound.{own_hold}
 use Rattle.fallible_contract.specs.Contract.{Contract, OnAnswer, KeptByDraw, Lawful}
 use Rattle.fallible_iterator.specs.Sources.RepeatErr.{RepeatErrAnswer, repeat_err_contract}
 use Rattle.std.specs.declared.alloc.AllocError.{AllocError}
 use Rattle.fallible_iterator.specs.Laws.Sources.Repeat.{run_again_is_all_such_answers}
+use Rattle.fallible_iterator.specs.Laws.Sources.Hints.{repeat_err_hold}
 
 module _ {A E : Type 0} (is_clone : E → E → Type 0) (is_infallible : E → Type 0) (from : AllocError → E → Type 0) where
   abbrev RepeatErrContract : Contract E A E
@@ -21,4 +21,4 @@ module _ {A E : Type 0} (is_clone : E → E → Type 0) (is_infallible : E → T
   kept_by_draw_repeat_err v r w step = subst (λ (u : E). KeptByDraw RepeatErrContract v r u) (sym step.1) (record { can_next = tt; is_finite = λ e. e; answer = on_answer_of_repeat_err v r step.0; may_give = λ x h. h; may_fail = λ e h. h; lenders = refl })
 
   pub lawful_repeat_err : Lawful RepeatErrContract
-  lawful_repeat_err = record { kept_by_draw = λ v r w c step. kept_by_draw_repeat_err v r w step; bounded = λ v. ((λ e. (0, tt)), (λ p. tt)); hold = own_hold; traced = run_again_is_all_such_answers (RepeatErrAnswer is_clone is_infallible from) }
+  lawful_repeat_err = record { kept_by_draw = λ v r w c step. kept_by_draw_repeat_err v r w step; bounded = λ v. ((λ e. (0, tt)), (λ p. tt)); hold = repeat_err_hold is_clone is_infallible from; traced = run_again_is_all_such_answers (RepeatErrAnswer is_clone is_infallible from) }
