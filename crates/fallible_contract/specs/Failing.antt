@@ -2,7 +2,7 @@
 use Rattle.std.specs.Prelude.{◌≡◌, ◌≤◌, List, [], ◌∷◌, map, Result, None, Ok, Err, ⊤}
 use Rattle.std.specs.Iterator.{IsFinite, size}
 use Rattle.fallible_contract.specs.Traces.{Answered}
-use Rattle.fallible_contract.specs.Sound.{own_sound}
+use Rattle.fallible_contract.specs.Sound.{own_sound, sound_always, as_source}
 use Rattle.fallible_contract.specs.Contract.{Contract}
 use Rattle.fallible_contract.specs.Closures.{IsCallable, MayAnswer}
 use Rattle.fallible_contract.specs.Exchange.{exchanged, steps_exchanged, traces_exchanged}
@@ -41,7 +41,7 @@ failing_contract m call takes = record {
   hints = λ p h. m.hints p.0 h;
   lenders = λ p. m.lenders p.0;
   traces = replaces_all m.traces call;
-  sound = own_sound (λ p r q. FailingTrace m.steps call p (r ∷ []) q);
+  sound = as_source (λ p. p.0) m.sound;
 }
 
 -- What an adapter that replaces failures makes of one answer of its source, or of the result of a call on its source: a failure becomes what the closure returns for it; all else passes, without a call.
@@ -93,6 +93,10 @@ RecoveringTrace steps call outcome p trace q = PassTrace (steps_exchanged steps)
 abbrev pub recovering_step : {S F X D V E : Type 0} → (S → Answered X D → S → Type 0) → (F → D → V → F → Type 0) → (D → V → Outcome X E) → S × F → Answered X E → S × F → Type 0
 recovering_step steps call outcome p r q = RecoveringTrace steps call outcome p (r ∷ []) q
 
+-- its definition over all that its source returns
+abbrev pub recovers_all : {S F X D V E : Type 0} → (S → List (Answered X D) → S → Type 0) → (F → D → V → F → Type 0) → (D → V → Outcome X E) → S × F → List (Answered X E) → S × F → Type 0
+recovers_all traces call outcome p trace q = passes_all (traces_exchanged traces) call (λ d v. outcome_exchanged (outcome d v)) p (map exchanged trace) q
+
 -- The contract of an adapter that may leave failures out is that of one that leaves items out, with items and failures exchanged. So it requires that the source is finite and what remains of it has a bound, which is its own bound too. Nothing is known of how many items come, so its hint says nothing.
 abbrev pub recovering_contract : {S F X D V E : Type 0} → Contract S X D → (F → D → V → F → Type 0) → (F → D → Type 0) → (D → V → Outcome X E) → Contract (S × F) X E
-recovering_contract m call takes outcome = exchanged_contract (leaving_out_contract (exchanged_contract m) call (λ P f. IsCallable call takes P f) (λ d v. outcome_exchanged (outcome d v)) (λ p h. h ≡ (0, None)))
+recovering_contract m call takes outcome = record (exchanged_contract (leaving_out_contract (exchanged_contract m) call (λ P f. IsCallable call takes P f) (λ d v. outcome_exchanged (outcome d v)) (λ p h. h ≡ (0, None)))) { traces = recovers_all m.traces call outcome; sound = sound_always }

@@ -47,6 +47,14 @@ smaller_bound None y = y
 abbrev pub hint_smaller : ℕ × Option ℕ → ℕ × Option ℕ → ℕ × Option ℕ
 hint_smaller g h = (min g.0 h.0, smaller_bound g.1 h.1)
 
--- One more on each bound, the lower at most the greatest number there is, and no upper where it would be past that
+-- one more on an upper bound, and none where it would be past the greatest number there is
+abbrev pub UpperWithItem : Option ℕ → Option ℕ → Type 0
+UpperWithItem high with_item = MatchOption high (with_item ≡ None) (λ n. SomeIff with_item (n + 1 < 2 ^ 64) (n + 1))
+
+-- one more on a lower bound, at most the greatest number there is
+abbrev pub lower_with_item : ℕ → ℕ
+lower_with_item low = min (low + 1) (2 ^ 64 - 1)
+
+-- one more on each bound
 abbrev pub HintWithItem : ℕ × Option ℕ → ℕ × Option ℕ → Type 0
-HintWithItem k h = (h.0 ≡ min (k.0 + 1) (2 ^ 64 - 1)) × MatchOption k.1 (h.1 ≡ None) (λ n. SomeIff h.1 (n + 1 < 2 ^ 64) (n + 1))
+HintWithItem k h = (h.0 ≡ lower_with_item k.0) × UpperWithItem k.1 h.1

@@ -1,16 +1,18 @@
 -- The contracts of the adapters whose closure is called on failures are lawful where the source's is.
-use Rattle.std.specs.Prelude.{◌≡◌, List, [], ◌∷◌, map, Some, None, Ok, Err}
+use Rattle.std.specs.Prelude.{◌≡◌, ℕ, Option, List, [], ◌∷◌, map, Some, None, Ok, Err}
 use Rattle.std.proofs.Common.{refl, sym, ap, subst, arith, inl, inr}
 use Rattle.std.specs.Iterator.{IsFinite, size}
 use Rattle.fallible_contract.specs.Traces.{Answered}
-use Rattle.fallible_contract.specs.Laws.Sound.{own_hold}
+use Rattle.fallible_contract.specs.Sound.{SoundWhere, HintsHold, as_source}
+use Rattle.fallible_contract.specs.Laws.Sound.{own_hold, hold_within, hold_nothing_said}
 use Rattle.fallible_contract.specs.Contract.{Contract, OnAnswer, KeptByDraw, Lawful}
 use Rattle.fallible_contract.specs.Closures.{Reaches, IsCallable}
 use Rattle.fallible_contract.specs.Ends.{Ends, from_back, ends_of, LawfulEnds}
 use Rattle.fallible_contract.specs.Exchange.{exchanged, steps_exchanged}
-use Rattle.fallible_contract.specs.Failing.{failing_outcome, FailingTrace, FailingAnswer, replaces_all, failing_contract, exchanged_contract, outcome_exchanged, recovering_contract}
+use Rattle.fallible_contract.specs.Failing.{failing_outcome, FailingTrace, failing_step, FailingAnswer, replaces_all, failing_contract, exchanged_contract, outcome_exchanged, recovering_contract}
 use Rattle.fallible_contract.specs.Laws.Closures.{reaches_reflexive, reaches_by_call_first, is_callable_after, may_answer_of_call, may_answer_where_reached_may_answer}
 use Rattle.fallible_contract.specs.Laws.Exchange.{exchanged_twice, exchanged_traced}
+use Rattle.fallible_contract.specs.Laws.Contract.{lawful_with_sound}
 use Rattle.fallible_contract.specs.Laws.LawForm.{IsByAnswers, is_by_answers_renamed, run_at_one_answer_iff_law, IsTraced, iff_of_two}
 use Rattle.fallible_contract.specs.Laws.Passing.{Passes, done, end_passes, failure_passes, keeps, refuses, closes, leaves_out, passes_of_pass_trace, passing_by_answers, passes_over_all, lawful_leaving_out}
 use Rattle.fallible_contract.specs.declared.passing.Outcome.{Outcome}
@@ -31,6 +33,20 @@ module _ {S F X D E : Type 0} (steps : S → Answered X D → S → Type 0) (cal
   -- a trace of one answer is one draw
   pub drawn_once_of_trace : (p q : S × F) (r : Answered X E) → FailingTrace steps call p (r ∷ []) q → DrawnOnce p.0 p.1 r q.0 q.1
   drawn_once_of_trace p q r trace = subst (λ (a : Answered X E). DrawnOnce p.0 p.1 a q.0 q.1) (exchanged_twice r) (drawn_once_of_passes p.0 q.0 p.1 q.1 (exchanged r) (passes_of_pass_trace trace))
+
+-- what is no failure was drawn so
+drawn_is_ok_where_failing_answer_is_ok : {F X D E : Type 0} (call : F → D → E → F → Type 0) (f g : F) (o : Option X) (drawn : Answered X D) → FailingAnswer call f drawn (Ok o) g → drawn ≡ Ok o
+drawn_is_ok_where_failing_answer_is_ok call f g o (Ok v) made = let same : v ≡ o = (let e = made.0 in cc) in ap (λ z. Ok z) same
+drawn_is_ok_where_failing_answer_is_ok call f g o (Err d) made = absurd (let e = made.2 in cc)
+
+module _ {S F X D E : Type 0} (steps : S → Answered X D → S → Type 0) (call : F → D → E → F → Type 0) where
+  -- an item comes of an item, and an end of an end
+  pub source_step_of_failing_step : (p q : S × F) (o : Option X) → failing_step steps call p (Ok o) q → steps p.0 (Ok o) q.0
+  source_step_of_failing_step p q o step = let d = drawn_once_of_trace steps call p q (Ok o) step in subst (λ (r : Answered X D). steps p.0 r q.0) (drawn_is_ok_where_failing_answer_is_ok call p.1 q.1 o d.0 d.2) d.1
+
+  -- so its hints are as sound as the source's
+  failing_hold : {hints : S → ℕ × Option ℕ → Type 0} {w : SoundWhere S} → HintsHold steps hints w → HintsHold (failing_step steps call) (λ p h. hints p.0 h) (as_source (λ p. p.0) w)
+  failing_hold holds = hold_within (λ (p : S × F). p.0) (failing_step steps call) steps (λ p o q step. source_step_of_failing_step p q o step) holds
 
 module _ {S F X D E : Type 0} (m : Contract S X D) (l : Lawful m) (call : F → D → E → F → Type 0) (takes : F → D → Type 0) where
   abbrev FailingContract : Contract (S × F) X E
@@ -59,7 +75,7 @@ pub failing_traced : {S F X D E : Type 0} {steps : S → Answered X D → S → 
 failing_traced {steps = steps} law call p trace q = iff_of_two (run_at_one_answer_iff_law _ (failing_by_answers steps call) p trace q) (passes_over_all (exchanged_traced law) call failing_outcome p (map exchanged trace) q)
 
 pub lawful_failing : {S F X D E : Type 0} {m : Contract S X D} (call : F → D → E → F → Type 0) (takes : F → D → Type 0) → Lawful m → Lawful (failing_contract m call takes)
-lawful_failing {m = m} call takes l = record { kept_by_draw = kept_by_draw_failing m l call takes; bounded = λ p. l.bounded p.0; traced = failing_traced l.traced call; hold = own_hold }
+lawful_failing {m = m} call takes l = record { kept_by_draw = kept_by_draw_failing m l call takes; bounded = λ p. l.bounded p.0; traced = failing_traced l.traced call; hold = failing_hold m.steps call l.hold }
 
 pub lawful_ends_failing : {S F X D E : Type 0} {m : Contract S X D} {e : Ends S X D} (call : F → D → E → F → Type 0) (takes : F → D → Type 0) → LawfulEnds m e → LawfulEnds (failing_contract m call takes) (ends_of (failing_contract (from_back m e) call takes))
 lawful_ends_failing call takes l = record {
@@ -97,7 +113,7 @@ lawful_exchanged {m = m} l = record {
 -- ---- where a failure may become an item
 
 pub lawful_recovering : {S F X D V E : Type 0} {m : Contract S X D} (call : F → D → V → F → Type 0) (takes : F → D → Type 0) (outcome : D → V → Outcome X E) → Lawful m → Lawful (recovering_contract m call takes outcome)
-lawful_recovering {m = m} call takes outcome l = lawful_exchanged (lawful_leaving_out call (λ P f. IsCallable call takes P f) (λ d v. outcome_exchanged (outcome d v)) (λ p h. h ≡ (0, None)) (λ P Q f h weak reached c. is_callable_after weak reached c) (lawful_exchanged l))
+lawful_recovering {m = m} call takes outcome l = lawful_with_sound hold_nothing_said (lawful_exchanged (lawful_leaving_out call (λ P f. IsCallable call takes P f) (λ d v. outcome_exchanged (outcome d v)) (λ p h. h ≡ (0, None)) (λ P Q f h weak reached c. is_callable_after weak reached c) (lawful_exchanged l)))
 
 pub lawful_ends_recovering : {S F X D V E : Type 0} {m : Contract S X D} {e : Ends S X D} (call : F → D → V → F → Type 0) (takes : F → D → Type 0) (outcome : D → V → Outcome X E) → LawfulEnds m e → LawfulEnds (recovering_contract m call takes outcome) (ends_of (recovering_contract (from_back m e) call takes outcome))
 lawful_ends_recovering call takes outcome l = record {

@@ -107,7 +107,7 @@ lawful_drawing can = let l = lawful_unbounded (λ s r t. can t) in record {
   };
   bounded = l.bounded;
   traced = λ _ _ _. ((λ h. h), (λ h. h));
-    hold = own_hold;
+  hold = own_hold;
 }
 
 module _ {S P A E B F : Type 0} (view : S → P) (m : Contract P A E) where

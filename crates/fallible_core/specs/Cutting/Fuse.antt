@@ -1,25 +1,19 @@
 -- `Fuse`, which is exhausted at the first end.
 use Rattle.std.proofs.Common.{refl}
 use Rattle.std.specs.Prelude.{◌≡◌, List, Bool, true}
-use Rattle.fallible_contract.specs.Traces.{Answered, Run, is_end}
+use Rattle.fallible_contract.specs.Traces.{Answered, is_end}
 use Rattle.fallible_contract.specs.Sound.{as_source, sound_once}
 use Rattle.fallible_contract.specs.Contract.{Inverse, Contract}
 use Rattle.fallible_contract.specs.Closing.{ClosingTrace, closing_contract}
 use Rattle.fallible_core.specs.declared.cutting.fuse.Fuse.{Fuse}
 
 -- `Fuse`: the source's trace, which the source's end closes.
-pub record FuseTrace {S A E : Type 0} (steps : S → Answered A E → S → Type 0) (p : S × Bool) (trace : List (Answered A E)) (q : S × Bool) : Type 0 where
-  pub source_trace : List (Answered A E)
-  pub drawn : Run steps p.0 source_trace q.0
-  pub cut : ClosingTrace (λ r. r) is_end p.1 source_trace trace q.1
-
--- Its definition over all that its source returns.
-abbrev pub fuses_all : {S A E : Type 0} → (S → List (Answered A E) → S → Type 0) → S × Bool → List (Answered A E) → S × Bool → Type 0
-fuses_all {A = A} {E = E} traces p trace q = (drawn : List (Answered A E)) × traces p.0 drawn q.0 × ClosingTrace (λ r. r) is_end p.1 drawn trace q.1
+abbrev pub FuseTrace : {S A E : Type 0} → (S → List (Answered A E) → S → Type 0) → S × Bool → List (Answered A E) → S × Bool → Type 0
+FuseTrace {A = A} {E = E} traces p trace q = (drawn : List (Answered A E)) × traces p.0 drawn q.0 × ClosingTrace (λ r. r) is_end p.1 drawn trace q.1
 
 -- `Fuse`'s contract: that of its source but for the step and the hint, which the source's end closes.
 abbrev pub fuse_contract : {S A E : Type 0} → Contract S A E → Contract (S × Bool) A E
-fuse_contract m = record (closing_contract m m.steps (λ r. r) is_end) { traces = fuses_all m.traces; sound = sound_once (λ p. p.1 ≡ true) (as_source (λ p. p.0) m.sound) }
+fuse_contract m = record (closing_contract m m.steps (λ r. r) is_end) { traces = FuseTrace m.traces; sound = sound_once (λ p. p.1 ≡ true) (as_source (λ p. p.0) m.sound) }
 
 -- the source
 abbrev pub fuse_source : {I : Type 0} → Fuse I → I

@@ -7,7 +7,7 @@ use Rattle.fallible_contract.specs.Traces.{Answered}
 use Rattle.fallible_contract.specs.Sound.{above_as_source}
 use Rattle.fallible_contract.specs.Contract.{Inverse, Contract}
 use Rattle.fallible_contract.specs.Closures.{call_by_reference, takes_by_reference, IsCallable}
-use Rattle.fallible_contract.specs.Passing.{PassTrace, leaving_out_contract}
+use Rattle.fallible_contract.specs.Passing.{passes_all, leaving_out_contract}
 use Rattle.fallible_contract.specs.Folding.{FoldingTurn}
 pub use Rattle.fallible_contract.specs.Passing.{tested_outcome}
 use Rattle.fallible_contract.specs.Hints.{upper_alone}
@@ -17,12 +17,12 @@ use Rattle.fallible_contract.specs.declared.passing.Outcome.{Outcome}
 use Rattle.fallible_core.specs.declared.filtering.filter.Filter.{Filter}
 
 -- `Filter`: the source's trace without the rejected items, where an item whose predicate failed is replaced by that failure; it doesn't end in a rejected item.
-abbrev pub FilterTrace : {S F X E : Type 0} → (S → Answered X E → S → Type 0) → Mut F (Bor X × Unit {0}) (Result Bool E) → S × F → List (Answered X E) → S × F → Type 0
-FilterTrace steps g p trace q = PassTrace steps (call_by_reference g) tested_outcome p trace q
+abbrev pub FilterTrace : {S F X E : Type 0} → (S → List (Answered X E) → S → Type 0) → Mut F (Bor X × Unit {0}) (Result Bool E) → S × F → List (Answered X E) → S × F → Type 0
+FilterTrace traces g p trace q = passes_all traces (call_by_reference g) tested_outcome p trace q
 
 -- `Filter`'s contract: its hint has the source's upper bound alone.
 abbrev pub filter_contract : {S F X E : Type 0} → Contract S X E → Mut F (Bor X × Unit {0}) (Result Bool E) → Contract (S × F) X E
-filter_contract m g = record (leaving_out_contract m (call_by_reference g) (λ P f. IsCallable (call_by_reference g) (takes_by_reference g) P f) tested_outcome (λ p h. upper_alone m p.0 h)) { sound = above_as_source (λ p. p.0) m.sound }
+filter_contract m g = record (leaving_out_contract m (call_by_reference g) (λ P f. IsCallable (call_by_reference g) (takes_by_reference g) P f) tested_outcome (λ p h. upper_alone m p.0 h)) { traces = FilterTrace m.traces g; sound = above_as_source (λ p. p.0) m.sound }
 
 -- the source
 abbrev pub filter_source : {I F : Type 0} → Filter I F → I

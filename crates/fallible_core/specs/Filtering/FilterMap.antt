@@ -3,9 +3,10 @@ use Rattle.std.proofs.Common.{refl}
 use Rattle.std.specs.Prelude.{Option, Result, Some, Ok, Err, List, None, [], ◌∷◌}
 use Rattle.std.specs.Fn.{Mut}
 use Rattle.fallible_contract.specs.Traces.{Answered}
+use Rattle.fallible_contract.specs.Sound.{above_as_source}
 use Rattle.fallible_contract.specs.Contract.{Inverse, Contract}
 use Rattle.fallible_contract.specs.Closures.{call_by_value, takes_by_value, IsCallable}
-use Rattle.fallible_contract.specs.Passing.{PassTrace, leaving_out_contract}
+use Rattle.fallible_contract.specs.Passing.{passes_all, leaving_out_contract}
 use Rattle.fallible_contract.specs.Hints.{upper_alone}
 use Rattle.fallible_contract.specs.declared.passing.Outcome.{Outcome}
 use Rattle.fallible_contract.specs.declared.passing.Outcome.TheVariants.{Kept, LeftOut, Failure}
@@ -18,12 +19,12 @@ filter_map_outcome x (Ok None) = LeftOut
 filter_map_outcome x (Err e) = Failure e
 
 -- `FilterMap`: the source's trace without the items for which the closure returns `None`, where each other item is replaced by the value or the failure that the closure returns for it; it doesn't end in a left-out item.
-abbrev pub FilterMapTrace : {S F X B E : Type 0} → (S → Answered X E → S → Type 0) → Mut F (X × Unit {0}) (Result (Option B) E) → S × F → List (Answered B E) → S × F → Type 0
-FilterMapTrace steps g p trace q = PassTrace steps (call_by_value g) filter_map_outcome p trace q
+abbrev pub FilterMapTrace : {S F X B E : Type 0} → (S → List (Answered X E) → S → Type 0) → Mut F (X × Unit {0}) (Result (Option B) E) → S × F → List (Answered B E) → S × F → Type 0
+FilterMapTrace traces g p trace q = passes_all traces (call_by_value g) filter_map_outcome p trace q
 
 -- `FilterMap`'s contract: its hint has the source's upper bound alone.
 abbrev pub filter_map_contract : {S F X B E : Type 0} → Contract S X E → Mut F (X × Unit {0}) (Result (Option B) E) → Contract (S × F) B E
-filter_map_contract m g = leaving_out_contract m (call_by_value g) (λ P f. IsCallable (call_by_value g) (takes_by_value g) P f) filter_map_outcome (λ p h. upper_alone m p.0 h)
+filter_map_contract m g = record (leaving_out_contract m (call_by_value g) (λ P f. IsCallable (call_by_value g) (takes_by_value g) P f) filter_map_outcome (λ p h. upper_alone m p.0 h)) { traces = FilterMapTrace m.traces g; sound = above_as_source (λ p. p.0) m.sound }
 
 -- the source
 abbrev pub filter_map_source : {I F : Type 0} → FilterMap I F → I

@@ -5,6 +5,7 @@ use Rattle.std.specs.Fn.{Mut}
 use Rattle.std.specs.Borrow.{Bor}
 use Rattle.std.specs.List.{filter_map}
 use Rattle.fallible_contract.specs.Traces.{Answered, Run, LastKept}
+use Rattle.fallible_contract.specs.Sound.{SoundWhere}
 use Rattle.fallible_contract.specs.Contract.{Inverse, Contract}
 use Rattle.fallible_contract.specs.Closures.{Calls, IsCallable, call_by_reference, takes_by_reference}
 use Rattle.fallible_contract.specs.Passing.{Place, asked, failure_at, end_at, source_answer, call_of, answer_at, leaving_out_contract, has_answer}
@@ -75,9 +76,13 @@ pub record SkipWhileTrace {S F X E : Type 0} (steps : S → Answered X E → S �
 abbrev pub skip_while_hints : {S F X E : Type 0} → Contract S X E → S × (Bool × F) → ℕ × Option ℕ → Type 0
 skip_while_hints m p h = MatchBool (p.1).0 (m.hints p.0 h) (upper_alone m p.0 h)
 
+-- The bounds wherever they are sound of the source; the lower one, until the first false, always.
+abbrev pub skip_while_sound : {S F : Type 0} → SoundWhere S → SoundWhere (S × (Bool × F))
+skip_while_sound w = record { above = λ p high. w.above p.0 high; below = λ p low. (p.1).0 ≡ true → w.below p.0 low }
+
 -- `SkipWhile`'s contract.
 abbrev pub skip_while_contract : {S F X E : Type 0} → Contract S X E → Mut F (Bor X × Unit {0}) (Result Bool E) → Contract (S × (Bool × F)) X E
-skip_while_contract m g = leaving_out_contract m (skip_call (call_by_reference g)) (λ P p. IsCallable (skip_call (call_by_reference g)) (skip_takes (takes_by_reference g)) P p) skip_while_outcome (skip_while_hints m)
+skip_while_contract m g = record (leaving_out_contract m (skip_call (call_by_reference g)) (λ P p. IsCallable (skip_call (call_by_reference g)) (skip_takes (takes_by_reference g)) P p) skip_while_outcome (skip_while_hints m)) { sound = skip_while_sound m.sound }
 
 -- the source
 abbrev pub skip_while_source : {I P : Type 0} → SkipWhile I P → I

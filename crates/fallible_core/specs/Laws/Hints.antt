@@ -2,6 +2,8 @@
 pub mod Brackets
 pub mod Cutting
 pub mod Drawn
+pub mod Filtering
 pub mod Holding
 pub mod Joining
 pub mod Passing
+pub mod Peeking

@@ -3,9 +3,10 @@ use Rattle.std.proofs.Common.{refl}
 use Rattle.std.specs.Prelude.{⊤, Result, Ok, Err, List, [], ◌∷◌}
 use Rattle.std.specs.Borrow.{Bor}
 use Rattle.fallible_contract.specs.Traces.{Answered}
+use Rattle.fallible_contract.specs.Sound.{as_source}
 use Rattle.fallible_contract.specs.Contract.{Inverse, Contract}
 use Rattle.fallible_contract.specs.Refusals.{RefusedAs}
-use Rattle.fallible_contract.specs.Passing.{PassTrace, passing_contract}
+use Rattle.fallible_contract.specs.Passing.{passes_all, passing_contract}
 use Rattle.fallible_core.specs.OneToOne.Map.{map_outcome}
 use Rattle.std.specs.declared.alloc.AllocError.{AllocError}
 use Rattle.fallible_core.specs.declared.one_to_one.cloned.Cloned.{Cloned}
@@ -17,12 +18,12 @@ module _ {T E : Type 0} (is_clone : T → T → Type 0) (is_infallible : T → T
   cloned_call u x (Err e) v = RefusedAs is_infallible from x.now e
 
   -- `Cloned`: the source's trace, where each item is replaced by a clone of what it points to, or by the failure converted from its `AllocError`.
-  abbrev pub ClonedTrace : {S : Type 0} → (S → Answered (Bor T) E → S → Type 0) → S × Unit {0} → List (Answered T E) → S × Unit {0} → Type 0
-  ClonedTrace steps p trace q = PassTrace steps cloned_call map_outcome p trace q
+  abbrev pub ClonedTrace : {S : Type 0} → (S → List (Answered (Bor T) E) → S → Type 0) → S × Unit {0} → List (Answered T E) → S × Unit {0} → Type 0
+  ClonedTrace traces p trace q = passes_all traces cloned_call map_outcome p trace q
 
   -- `Cloned`'s contract. It requires nothing more than the source, and has the source's hint.
   abbrev pub cloned_contract : {S : Type 0} → Contract S (Bor T) E → Contract (S × Unit {0}) T E
-  cloned_contract m = passing_contract m cloned_call (λ P u. ⊤) map_outcome (λ p h. m.hints p.0 h)
+  cloned_contract m = record (passing_contract m cloned_call (λ P u. ⊤) map_outcome (λ p h. m.hints p.0 h)) { traces = ClonedTrace m.traces; sound = as_source (λ p. p.0) m.sound }
 
 -- the source
 abbrev pub cloned_source : {I : Type 0} → Cloned I → I

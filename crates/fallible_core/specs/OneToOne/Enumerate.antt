@@ -2,7 +2,7 @@
 use Rattle.std.proofs.Common.{refl}
 use Rattle.std.specs.Prelude.{◌≡◌, ℕ, ◌+◌, ◌-◌, ◌^◌, ◌≤◌, ◌<◌, List, [], ◌∷◌, Some, None, Ok, Err, Result}
 use Rattle.fallible_contract.specs.Traces.{Answered, Run, first_of, item, failure, end, items_in}
-use Rattle.fallible_contract.specs.Sound.{own_sound}
+use Rattle.fallible_contract.specs.Sound.{as_source}
 use Rattle.fallible_contract.specs.Contract.{Inverse, Contract}
 use Rattle.fallible_contract.specs.declared.passing.Outcome.{Outcome}
 use Rattle.fallible_contract.specs.declared.passing.Outcome.TheVariants.{Kept}
@@ -46,7 +46,7 @@ enumerate_contract m = record {
   hints = λ p h. m.hints p.0 h;
   lenders = λ p. m.lenders p.0;
   traces = numbers_all m.traces;
-  sound = own_sound (λ p r q. EnumerateTrace m.steps p (r ∷ []) q);
+  sound = as_source (λ p. p.0) m.sound;
 }
 
 -- the source

@@ -4,9 +4,10 @@ use Rattle.std.specs.Prelude.{Result, Ok, Err, List, [], ◌∷◌}
 use Rattle.std.specs.Fn.{Mut}
 use Rattle.std.specs.Borrow.{Bor}
 use Rattle.fallible_contract.specs.Traces.{Answered}
+use Rattle.fallible_contract.specs.Sound.{as_source}
 use Rattle.fallible_contract.specs.Contract.{Inverse, Contract}
 use Rattle.fallible_contract.specs.Closures.{call_by_reference, takes_by_reference, IsCallable}
-use Rattle.fallible_contract.specs.Passing.{PassTrace, passing_contract}
+use Rattle.fallible_contract.specs.Passing.{passes_all, passing_contract}
 use Rattle.fallible_contract.specs.declared.passing.Outcome.{Outcome}
 use Rattle.fallible_contract.specs.declared.passing.Outcome.TheVariants.{Kept, Failure}
 use Rattle.fallible_core.specs.declared.one_to_one.inspect.Inspect.{Inspect}
@@ -17,12 +18,12 @@ inspect_outcome x (Ok u) = Kept x
 inspect_outcome x (Err e) = Failure e
 
 -- `Inspect`: the source's trace, where each item on which the closure failed is replaced by that failure.
-abbrev pub InspectTrace : {S F X E : Type 0} → (S → Answered X E → S → Type 0) → Mut F (Bor X × Unit {0}) (Result (Unit {0}) E) → S × F → List (Answered X E) → S × F → Type 0
-InspectTrace steps g p trace q = PassTrace steps (call_by_reference g) inspect_outcome p trace q
+abbrev pub InspectTrace : {S F X E : Type 0} → (S → List (Answered X E) → S → Type 0) → Mut F (Bor X × Unit {0}) (Result (Unit {0}) E) → S × F → List (Answered X E) → S × F → Type 0
+InspectTrace traces g p trace q = passes_all traces (call_by_reference g) inspect_outcome p trace q
 
 -- `Inspect`'s contract: the closure may be called on each item that may come, and its hint is the source's.
 abbrev pub inspect_contract : {S F X E : Type 0} → Contract S X E → Mut F (Bor X × Unit {0}) (Result (Unit {0}) E) → Contract (S × F) X E
-inspect_contract m g = passing_contract m (call_by_reference g) (λ P f. IsCallable (call_by_reference g) (takes_by_reference g) P f) inspect_outcome (λ p h. m.hints p.0 h)
+inspect_contract m g = record (passing_contract m (call_by_reference g) (λ P f. IsCallable (call_by_reference g) (takes_by_reference g) P f) inspect_outcome (λ p h. m.hints p.0 h)) { traces = InspectTrace m.traces g; sound = as_source (λ p. p.0) m.sound }
 
 -- the source
 abbrev pub inspect_source : {I F : Type 0} → Inspect I F → I

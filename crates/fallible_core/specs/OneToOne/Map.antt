@@ -6,7 +6,7 @@ use Rattle.fallible_contract.specs.Traces.{Answered}
 use Rattle.fallible_contract.specs.Sound.{as_source}
 use Rattle.fallible_contract.specs.Contract.{Inverse, Contract}
 use Rattle.fallible_contract.specs.Closures.{call_by_value, takes_by_value, IsCallable}
-use Rattle.fallible_contract.specs.Passing.{PassTrace, passing_contract}
+use Rattle.fallible_contract.specs.Passing.{passes_all, passing_contract}
 use Rattle.fallible_contract.specs.declared.passing.Outcome.{Outcome}
 use Rattle.fallible_contract.specs.declared.passing.Outcome.TheVariants.{Kept, Failure}
 use Rattle.fallible_core.specs.declared.one_to_one.map.Map.{Map}
@@ -17,12 +17,12 @@ map_outcome x (Ok y) = Kept y
 map_outcome x (Err e) = Failure e
 
 -- `Map`: the source's trace, where each item is replaced by the closure's answer on it.
-abbrev pub MapTrace : {S F X B E : Type 0} → (S → Answered X E → S → Type 0) → Mut F (X × Unit {0}) (Result B E) → S × F → List (Answered B E) → S × F → Type 0
-MapTrace steps g p trace q = PassTrace steps (call_by_value g) map_outcome p trace q
+abbrev pub MapTrace : {S F X B E : Type 0} → (S → List (Answered X E) → S → Type 0) → Mut F (X × Unit {0}) (Result B E) → S × F → List (Answered B E) → S × F → Type 0
+MapTrace traces g p trace q = passes_all traces (call_by_value g) map_outcome p trace q
 
 -- `Map`'s contract: the closure may be called on each item that may come, and its hint is the source's.
 abbrev pub map_contract : {S F X B E : Type 0} → Contract S X E → Mut F (X × Unit {0}) (Result B E) → Contract (S × F) B E
-map_contract m g = record (passing_contract m (call_by_value g) (λ P f. IsCallable (call_by_value g) (takes_by_value g) P f) map_outcome (λ p h. m.hints p.0 h)) { sound = as_source (λ p. p.0) m.sound }
+map_contract m g = record (passing_contract m (call_by_value g) (λ P f. IsCallable (call_by_value g) (takes_by_value g) P f) map_outcome (λ p h. m.hints p.0 h)) { traces = MapTrace m.traces g; sound = as_source (λ p. p.0) m.sound }
 
 -- the source
 abbrev pub map_source : {I F : Type 0} → Map I F → I

@@ -4,10 +4,11 @@ use Rattle.std.specs.Prelude.{Option, Result, Some, None, Ok, Err, List, [], ◌
 use Rattle.std.specs.Fn.{Mut, TakesWithState, CalledWithState}
 use Rattle.std.specs.Borrow.{MutBor}
 use Rattle.fallible_contract.specs.Traces.{Answered}
+use Rattle.fallible_contract.specs.Sound.{above_as_source}
 use Rattle.fallible_contract.specs.Contract.{Inverse, Contract}
 use Rattle.fallible_contract.specs.Hints.{upper_alone}
 use Rattle.fallible_contract.specs.Closures.{IsCallable}
-use Rattle.fallible_contract.specs.Passing.{PassTrace, passing_contract}
+use Rattle.fallible_contract.specs.Passing.{passes_all, passing_contract}
 use Rattle.fallible_contract.specs.declared.passing.Outcome.{Outcome}
 use Rattle.fallible_contract.specs.declared.passing.Outcome.TheVariants.{Kept, Failure, End}
 use Rattle.fallible_core.specs.declared.one_to_one.scan.Scan.{Scan}
@@ -27,12 +28,12 @@ scan_outcome x (Ok None) = End
 scan_outcome x (Err e) = Failure e
 
 -- `Scan`, with the state beside the closure: the source's trace, where each item is replaced by the closure's answer on the state and the item, none being an end.
-abbrev pub ScanTrace : {S F T X B E : Type 0} → (S → Answered X E → S → Type 0) → Mut F (MutBor T × (X × Unit {0})) (Result (Option B) E × (MutBor T × Unit {0})) → S × (T × F) → List (Answered B E) → S × (T × F) → Type 0
-ScanTrace steps g p trace q = PassTrace steps (scan_call g) scan_outcome p trace q
+abbrev pub ScanTrace : {S F T X B E : Type 0} → (S → List (Answered X E) → S → Type 0) → Mut F (MutBor T × (X × Unit {0})) (Result (Option B) E × (MutBor T × Unit {0})) → S × (T × F) → List (Answered B E) → S × (T × F) → Type 0
+ScanTrace traces g p trace q = passes_all traces (scan_call g) scan_outcome p trace q
 
 -- `Scan`'s contract: its hint has the source's upper bound alone, since none is an end.
 abbrev pub scan_contract : {S F T X B E : Type 0} → Contract S X E → Mut F (MutBor T × (X × Unit {0})) (Result (Option B) E × (MutBor T × Unit {0})) → Contract (S × (T × F)) B E
-scan_contract m g = passing_contract m (scan_call g) (λ P h. IsCallable (scan_call g) (scan_takes g) P h) scan_outcome (λ p h. upper_alone m p.0 h)
+scan_contract m g = record (passing_contract m (scan_call g) (λ P h. IsCallable (scan_call g) (scan_takes g) P h) scan_outcome (λ p h. upper_alone m p.0 h)) { traces = ScanTrace m.traces g; sound = above_as_source (λ p. p.0) m.sound }
 
 -- the source
 abbrev pub scan_source : {I T F : Type 0} → Scan I T F → I

@@ -5,10 +5,10 @@ use Rattle.std.specs.Iterator.{count_map}
 use Rattle.std.specs.Fn.{Shared, FnReturnsAt}
 use Rattle.std.specs.Borrow.{Bor, MutBor}
 use Rattle.fallible_contract.specs.Traces.{Answered, Run, first_of, item, failure, end, NoEnd}
-use Rattle.fallible_contract.specs.Sound.{own_sound}
+use Rattle.fallible_contract.specs.Sound.{SoundWhere}
 use Rattle.fallible_contract.specs.Contract.{Inverse, Contract}
 use Rattle.fallible_contract.specs.Ends.{Ends}
-use Rattle.fallible_contract.specs.Hints.{HintWithItem}
+use Rattle.fallible_contract.specs.Hints.{HintWithItem, UpperWithItem, lower_with_item}
 use Rattle.fallible_core.specs.declared.peeking.peekable.Peekable.{Peekable}
 
 -- the source
@@ -64,6 +64,23 @@ peekable_hints m (s, None) h = m.hints s h
 peekable_hints m (s, Some None) h = h ≡ (0, Some 0)
 peekable_hints m (s, Some (Some x)) h = (k : ℕ × Option ℕ) × m.hints s k × HintWithItem k h
 
+module _ {S A : Type 0} (hints : S → ℕ × Option ℕ → Type 0) (w : SoundWhere S) where
+  -- of an upper bound: where nothing is held, wherever it is sound of the source; with a held end, always; with a held item, wherever that one is of which it is made
+  abbrev pub peekable_above : S × Option (Option A) → Option ℕ → Type 0
+  peekable_above (s, None) high = w.above s high
+  peekable_above (s, Some None) high = ⊤
+  peekable_above (s, Some (Some x)) high = (k : ℕ × Option ℕ) × hints s k × UpperWithItem k.1 high × w.above s k.1
+
+  -- of a lower bound the same
+  abbrev pub peekable_below : S × Option (Option A) → ℕ → Type 0
+  peekable_below (s, None) low = w.below s low
+  peekable_below (s, Some None) low = ⊤
+  peekable_below (s, Some (Some x)) low = (k : ℕ × Option ℕ) × hints s k × (low ≡ lower_with_item k.0) × w.below s k.0
+
+  -- of both
+  abbrev pub peekable_sound : SoundWhere (S × Option (Option A))
+  peekable_sound = record { above = peekable_above; below = peekable_below }
+
 -- how many items are held
 abbrev pub held_items : {A : Type 0} → Option (Option A) → ℕ
 held_items (Some (Some x)) = 1
@@ -83,7 +100,7 @@ peekable_contract m = record {
   hints = peekable_hints m;
   lenders = λ p. m.lenders p.0;
   traces = peeks_all m.traces;
-  sound = own_sound (peekable_step m.steps);
+  sound = peekable_sound m.hints m.sound;
 }
 
 -- ---- the second end
@@ -115,14 +132,14 @@ peeks_all_back traces (s, Some None) trace (t, held) = ((n : ℕ) × (trace ≡ 
 peeks_all_back traces (s, None) trace (t, held) = traces s trace t × (held ≡ None)
 
 -- `Peekable`'s second end: a held item may come from either end.
-abbrev pub peekable_ends : {S A E : Type 0} → Ends S A E → Ends (S × Option (Option A)) A E
-peekable_ends e = record {
+abbrev pub peekable_ends : {S A E : Type 0} → Contract S A E → Ends S A E → Ends (S × Option (Option A)) A E
+peekable_ends m e = record {
   can_next = λ p. e.can_next p.0;
   steps = peekable_step_back e.steps;
   may_give = λ p x. (p.1 ≡ Some (Some x)) ⊎ e.may_give p.0 x;
   may_fail = λ p d. e.may_fail p.0 d;
   traces = peeks_all_back e.traces;
-  sound = own_sound (peekable_step_back e.steps);
+  sound = peekable_sound m.hints e.sound;
 }
 
 -- ---- looking ahead

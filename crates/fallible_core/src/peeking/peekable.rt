@@ -72,7 +72,7 @@ impl<I: DoubleEndedFallibleIterator> DoubleEndedFallibleIterator for Peekable<I>
 where
     I::Item: Drop,
 {
-    ghost ends = { ends_parts_as peekable_parts (peekable_ends I.ends) };
+    ghost ends = { ends_parts_as peekable_parts (peekable_ends I.contract I.ends) };
 
     /// Draws the source once from the back, and at its end there returns the buffered item, in whose place an `Ok(None)` is buffered. A buffered `Ok(None)` is returned without a draw, and stays buffered.
     ///

@@ -13,6 +13,7 @@ use Rattle.fallible_contract.specs.Passing.{PassTrace, Place, asked, failure_at,
 use Rattle.fallible_contract.specs.Laws.LawForm.{run_at_one_answer_iff_law}
 use Rattle.fallible_contract.specs.Laws.Passing.{passing_by_answers}
 use Rattle.fallible_contract.specs.Laws.Passing.{Passes, done, end_passes, failure_passes, keeps, refuses, closes, leaves_out, last_kept_tail, last_kept_cons, last_kept_before, answers_never_nil, passes_of_pass_trace, pass_trace_of_passes}
+use Rattle.fallible_core.specs.Laws.Hints.Filtering.{runs_without_calls_after_false}
 use Rattle.fallible_core.specs.Filtering.SkipWhile.{cons_from, skipped_while, skip_call, skip_while_outcome, skip_while_parts, skip_while_contract, answers_false, false_at, EndsAtFalse, asked_outcome, AskedUntilFalse, SkipWhileTrace}
 use Rattle.fallible_core.specs.declared.filtering.skip_while.SkipWhile.{SkipWhile}
 
@@ -59,24 +60,6 @@ module _ {S F X E : Type 0} (steps : S → Answered X E → S → Type 0) (call 
 
   -- ---- after the first false all items pass, and the predicate isn't called
 
-  pub record RunsWithoutCalls (s : S) (p : Bool × F) (trace : List (Answered X E)) (t : S) (q : Bool × F) : Type 0 where
-    pub ran : Run steps s trace t
-    pub same : q ≡ p
-
-  pub runs_without_calls_after_false : (s t : S) (p q : Bool × F) (trace : List (Answered X E)) → p.0 ≡ true → SkipPasses s p trace t q → RunsWithoutCalls s p trace t q
-  runs_without_calls_after_false s _ p _ _ e done = record { ran = refl; same = refl }
-  runs_without_calls_after_false s t p q _ e (end_passes {u = u} {trace = rest} step h) = let k = runs_without_calls_after_false u t p q rest e h in record { ran = (u, step, k.ran); same = k.same }
-  runs_without_calls_after_false s t p q _ e (failure_passes {u = u} {trace = rest} d step h) = let k = runs_without_calls_after_false u t p q rest e h in record { ran = (u, step, k.ran); same = k.same }
-  runs_without_calls_after_false s t p q _ e (keeps {u = u} {h = j} {trace = rest} x None y step called is h) = let k = runs_without_calls_after_false u t j q rest (ap (λ (z : Bool × F). z.0) called.1 ∙ e) h in
-      let same : x ≡ y = cc in record { ran = (u, subst (λ (z : X). steps s (item z) u) same step, k.ran); same = k.same ∙ called.1 }
-  runs_without_calls_after_false s t p q _ e (keeps x (Some v) y step called is h) = absurd (let d = called.0 in cc)
-  runs_without_calls_after_false s t p q _ e (refuses x None d step called is h) = absurd cc
-  runs_without_calls_after_false s t p q _ e (refuses x (Some v) d step called is h) = absurd (let c = called.0 in cc)
-  runs_without_calls_after_false s t p q _ e (closes x None step called is h) = absurd cc
-  runs_without_calls_after_false s t p q _ e (closes x (Some v) step called is h) = absurd (let d = called.0 in cc)
-  runs_without_calls_after_false s t p q _ e (leaves_out x None step called is h) = absurd cc
-  runs_without_calls_after_false s t p q _ e (leaves_out x (Some v) step called is h) = absurd (let d = called.0 in cc)
-
   pub skip_passes_of_run_after_false : (trace : List (Answered X E)) (s t : S) (f : F) → Run steps s trace t → SkipPasses s (true, f) trace t (true, f)
   skip_passes_of_run_after_false [] s t f ran = subst (λ (u : S). SkipPasses s (true, f) [] u (true, f)) ran done
   skip_passes_of_run_after_false (Ok None ∷ rest) s t f ran = end_passes ran.1 (skip_passes_of_run_after_false rest ran.0 t f ran.2)
@@ -98,7 +81,7 @@ module _ {S F X E : Type 0} (steps : S → Answered X E → S → Type 0) (call 
   skips_before_false s t p q _ e (end_passes {u = u} {trace = rest} step h) = let k = skips_before_false u t p q rest e h in record { met = end_at ∷ k.met; after = k.after; drawn = (u, step, k.drawn); called = k.called; answers = ap (λ (l : List (Answered X E)). Ok None ∷ l) k.answers; until_false = asked_until_false_cons end_at k.met k.after q.0 refl refl k.until_false }
   skips_before_false s t p q _ e (failure_passes {u = u} {trace = rest} d step h) = let k = skips_before_false u t p q rest e h in record { met = failure_at d ∷ k.met; after = k.after; drawn = (u, step, k.drawn); called = k.called; answers = ap (λ (l : List (Answered X E)). Err d ∷ l) k.answers; until_false = asked_until_false_cons (failure_at d) k.met k.after q.0 refl refl k.until_false }
   skips_before_false s t p q _ e (keeps x None y step called is h) = absurd (let d = called.0 in cc)
-  skips_before_false s t p q _ e (keeps {u = u} {h = j} {trace = rest} x (Some (Ok false)) y step called is h) = let k = runs_without_calls_after_false u t j q rest called.2 h in let same : x ≡ y = cc in
+  skips_before_false s t p q _ e (keeps {u = u} {h = j} {trace = rest} x (Some (Ok false)) y step called is h) = let k = runs_without_calls_after_false steps call u t j q rest called.2 h in let same : x ≡ y = cc in
       record { met = asked x (Ok false) ∷ []; after = rest; drawn = (u, step, k.ran); called = (j.1, called.1, ap (λ (z : Bool × F). z.1) (sym k.same)); answers = ap (λ (z : X). item z ∷ rest) (sym same); until_false = subst (λ (b : Bool). AskedUntilFalse false (asked x (Ok false) ∷ []) rest b) (sym (ap (λ (z : Bool × F). z.0) k.same ∙ called.2)) refl }
   skips_before_false s t p q _ e (keeps x (Some (Ok true)) y step called is h) = absurd cc
   skips_before_false s t p q _ e (keeps x (Some (Err d)) y step called is h) = absurd cc
@@ -141,7 +124,7 @@ module _ {S F X E : Type 0} (steps : S → Answered X E → S → Type 0) (call 
   -- ---- both ways
 
   skip_while_trace_of_passes : (s t : S) (p q : Bool × F) (trace : List (Answered X E)) → SkipPasses s p trace t q → SkipWhileTrace steps call (s, p) trace (t, q)
-  skip_while_trace_of_passes s t (true, f) q trace h = let k = runs_without_calls_after_false s t (true, f) q trace refl h in record { met = []; after = trace; drawn = k.ran; called = ap (λ (z : Bool × F). z.1) (sym k.same); answers = refl; until_false = (refl, ap (λ (z : Bool × F). z.0) k.same) }
+  skip_while_trace_of_passes s t (true, f) q trace h = let k = runs_without_calls_after_false steps call s t (true, f) q trace refl h in record { met = []; after = trace; drawn = k.ran; called = ap (λ (z : Bool × F). z.1) (sym k.same); answers = refl; until_false = (refl, ap (λ (z : Bool × F). z.0) k.same) }
   skip_while_trace_of_passes s t (false, f) q trace h = let k = skips_before_false s t (false, f) q trace refl h in record { met = k.met; after = k.after; drawn = k.drawn; called = k.called; answers = k.answers; until_false = k.until_false }
 
   -- what came after the first false, where it came before the trace

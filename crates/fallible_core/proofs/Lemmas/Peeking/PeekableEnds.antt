@@ -48,8 +48,8 @@ module _ {S A E : Type 0} (front back : S → Answered A E → S → Type 0) whe
   back_draw_takes_last (s, Some None) k h r (t, held) step = rw h.list_is (step.0, rw (step.1, step.2) (record { source_list = h.source_list; source = h.source; at_end = h.at_end; list_is = refl }))
   back_draw_takes_last (s, None) k h r (t, held) step = rw (h.list_is, step.1) (takes_first_by_implication (λ j i. bare t (reverse j) i) r (reverse h.source_list) (takes_first_back h.source step.0))
 
-pub lists_both_ends_peekable : {S A E : Type 0} (m : Contract S A E) (e : Ends S A E) (s : Peekable S A E) (l : List (Result A E)) → ListsBothEnds m.steps e.steps (peekable_source s) l → (peekable_held s ≡ Some None → l ≡ []) → ListsBothEnds (parts_as peekable_parts (peekable_contract m)).steps (ends_parts_as peekable_parts (peekable_ends e)).steps s (held_then (peekable_held s) l)
-lists_both_ends_peekable m e s l i at_end = lists_both_ends_by_draws (parts_as peekable_parts (peekable_contract m)).steps (ends_parts_as peekable_parts (peekable_ends e)).steps (λ t k. ListsHeld m.steps e.steps (peekable_parts t) k)
+pub lists_both_ends_peekable : {S A E : Type 0} (m : Contract S A E) (e : Ends S A E) (s : Peekable S A E) (l : List (Result A E)) → ListsBothEnds m.steps e.steps (peekable_source s) l → (peekable_held s ≡ Some None → l ≡ []) → ListsBothEnds (parts_as peekable_parts (peekable_contract m)).steps (ends_parts_as peekable_parts (peekable_ends m e)).steps s (held_then (peekable_held s) l)
+lists_both_ends_peekable m e s l i at_end = lists_both_ends_by_draws (parts_as peekable_parts (peekable_contract m)).steps (ends_parts_as peekable_parts (peekable_ends m e)).steps (λ t k. ListsHeld m.steps e.steps (peekable_parts t) k)
     (λ u k h r t step. front_draw_takes_first m.steps e.steps (peekable_parts u) k h r (peekable_parts t) step)
     (λ u k h r t step. back_draw_takes_last m.steps e.steps (peekable_parts u) k h r (peekable_parts t) step) s (held_then (peekable_held s) l)
     (record { source_list = l; source = i; at_end = at_end; list_is = refl })

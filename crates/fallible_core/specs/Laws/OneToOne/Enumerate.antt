@@ -1,9 +1,11 @@
 -- The contract of `Enumerate` is lawful where the source's is.
-use Rattle.std.specs.Prelude.{◌≡◌, ℕ, ◌+◌, List, [], ◌∷◌, Some, None, Ok, Err}
+use Rattle.std.specs.Prelude.{◌≡◌, ℕ, ◌+◌, ⊤, List, [], ◌∷◌, Some, None, Ok, Err}
 use Rattle.std.proofs.Common.{sym, subst, arith, refl, ap}
-use Rattle.fallible_contract.specs.Traces.{Answered, Run, item, items_in}
-use Rattle.fallible_contract.specs.Laws.Sound.{own_hold}
+use Rattle.fallible_contract.specs.Traces.{Answered, Run, item, end, items_in}
+use Rattle.fallible_contract.specs.Sound.{HintsHold, as_source}
 use Rattle.fallible_contract.specs.Contract.{Contract, KeptByDraw, Lawful}
+use Rattle.fallible_core.specs.Laws.Hints.Drawn.{OneOfOne, as_sound_where_one_of_one}
+use Rattle.fallible_core.specs.Laws.Hints.Holding.{hold_as_source}
 use Rattle.fallible_core.specs.OneToOne.Enumerate.{numbered_from, EnumerateTrace, enumerate_contract, numbers_all}
 use Rattle.fallible_contract.specs.Laws.LawForm.{FirstOf, IsByAnswers, IsTraced, run_at_one_answer_iff_law, run_of_whole_list, list_is_trace}
 
@@ -94,5 +96,26 @@ enumerate_traced {A = A} {E = E} {steps = steps} law p trace q = let both = run_
   (λ (l, ran, h). both.1 (record { source_trace = h.source_trace; drawn = subst (λ (k : List (Answered A E)). Run steps p.0 k q.0) (list_is_trace h.source_trace l h.drawn) ((law p.0 l q.0).1 ran); answers = h.answers; number_after = h.number_after })),
 )
 
+-- ---- its hints
+
+module _ {S A E : Type 0} (steps : S → Answered A E → S → Type 0) where
+  abbrev enumerate_step : S × ℕ → Answered (ℕ × A) E → S × ℕ → Type 0
+  enumerate_step p r q = EnumerateTrace steps p (r ∷ []) q
+
+  source_item_of_numbered_item : (s t : S) (n k : ℕ) (y : ℕ × A) → NumberedTrace steps s n (item y ∷ []) t k → (x : A) × steps s (item x) t
+  source_item_of_numbered_item s t n _ _ (numbered_item x step numbered_none) = (x, step)
+
+  source_end_of_numbered_end : (s t : S) (n k : ℕ) → NumberedTrace steps s n (end ∷ []) t k → steps s end t
+  source_end_of_numbered_end s t n _ (numbered_end step numbered_none) = step
+
+  pub one_of_one_enumerate : OneOfOne enumerate_step steps (λ p. p.0) (λ p. ⊤)
+  one_of_one_enumerate = record {
+    item_of_item = λ p q y _ step. let d = source_item_of_numbered_item p.0 q.0 p.1 q.1 y (numbered_trace_of_enumerate_trace steps p.0 q.0 p.1 q.1 (item y ∷ []) step) in (d.0, d.1, tt);
+    end_of_end = λ p q _ step. source_end_of_numbered_end p.0 q.0 p.1 q.1 (numbered_trace_of_enumerate_trace steps p.0 q.0 p.1 q.1 (end ∷ []) step);
+  }
+
+enumerate_hold : {S A E : Type 0} (m : Contract S A E) → HintsHold m.steps m.hints m.sound → HintsHold (enumerate_contract m).steps (enumerate_contract m).hints (as_source (λ p. p.0) m.sound)
+enumerate_hold m holds = hold_as_source (enumerate_contract m).steps (enumerate_contract m).hints holds (λ p. p.0) (λ p h is. (is, as_sound_where_one_of_one _ _ _ _ (one_of_one_enumerate m.steps) p tt h))
+
 pub lawful_enumerate : {S A E : Type 0} {m : Contract S A E} → Lawful m → Lawful (enumerate_contract m)
-lawful_enumerate {m = m} l = record { kept_by_draw = kept_by_draw_enumerate m l; bounded = λ p. l.bounded p.0; traced = enumerate_traced l.traced; hold = own_hold }
+lawful_enumerate {m = m} l = record { kept_by_draw = kept_by_draw_enumerate m l; bounded = λ p. l.bounded p.0; traced = enumerate_traced l.traced; hold = enumerate_hold m l.hold }

@@ -2,7 +2,7 @@
 use Rattle.std.specs.Prelude.{◌+◌, Option, Some, None, Ok, Err, ◌≡◌, List, [], ◌∷◌, ◌++◌, ◌↔◌}
 use Rattle.std.proofs.Common.{refl, arith, inl, inr, sym, ap, subst}
 use Rattle.fallible_contract.specs.Traces.{Answered, item, end, Run}
-use Rattle.fallible_contract.specs.Laws.Sound.{own_hold}
+use Rattle.fallible_core.specs.Laws.Hints.Peeking.{peekable_hold, peekable_back_hold}
 use Rattle.fallible_contract.specs.Contract.{Contract, OnAnswer, KeptByDraw, Lawful}
 use Rattle.fallible_contract.specs.Ends.{Ends, from_back, LawfulEnds}
 use Rattle.fallible_core.specs.Peeking.Peekable.{held_items, peekable_contract, IsNoEnd, peekable_step_back, peekable_ends, held_answers, PeekableTrace, peekable_step, peeks_all}
@@ -85,7 +85,7 @@ pub lawful_peekable : {S A E : Type 0} {m : Contract S A E} → Lawful m → Law
 lawful_peekable {m = m} l = record {
   kept_by_draw = kept_by_draw_peekable m l;
   traced = peekable_traced l.traced;
-  hold = own_hold;
+  hold = peekable_hold m l.hold;
   bounded = λ p. ((λ e. let k = (l.bounded p.0).0 e in (k.0 + held_items p.1, (k.0, k.1, omega arith))), (λ h. (l.bounded p.0).1 ((h.1).0, (h.1).1)));
 }
 
@@ -96,7 +96,7 @@ module _ {S A E : Type 0} (m : Contract S A E) (e : Ends S A E) where
   SourceBack = from_back m e
 
   abbrev PeekableBack : Contract (S × Option (Option A)) A E
-  PeekableBack = from_back (peekable_contract m) (peekable_ends e)
+  PeekableBack = from_back (peekable_contract m) (peekable_ends m e)
 
   -- at the source's end the held item comes
   kept_by_draw_last : (s t : S) (x : A) → KeptByDraw SourceBack s end t → KeptByDraw PeekableBack (s, Some (Some x)) (item x) (t, Some None)
@@ -155,7 +155,7 @@ module _ {S A E : Type 0} (m : Contract S A E) (e : Ends S A E) where
   kept_by_draw_back l (s, Some None) r (t, held) c step = rw (step.0, step.1, step.2) (kept_by_draw_ended s c)
   kept_by_draw_back l (s, None) r (t, held) c step = rw step.1 (kept_by_draw_bare s t r (l.kept_by_draw s r t c step.0))
 
-pub lawful_ends_peekable : {S A E : Type 0} {m : Contract S A E} {e : Ends S A E} → LawfulEnds m e → LawfulEnds (peekable_contract m) (peekable_ends e)
+pub lawful_ends_peekable : {S A E : Type 0} {m : Contract S A E} {e : Ends S A E} → LawfulEnds m e → LawfulEnds (peekable_contract m) (peekable_ends m e)
 lawful_ends_peekable {m = m} {e = e} l = record {
   front_can = λ p c. l.front_can p.0 c;
   may_give = λ p x h. elim h [ inl d ↦ inl d | inr g ↦ inr (l.may_give p.0 x g) ];
@@ -165,6 +165,6 @@ lawful_ends_peekable {m = m} {e = e} l = record {
     kept_by_draw = kept_by_draw_back m e l.back;
     bounded = (lawful_peekable l.back).bounded;
     traced = peekable_back_traced l.back.traced;
-    hold = own_hold;
+    hold = peekable_back_hold m e.steps l.back.hold;
   };
 }

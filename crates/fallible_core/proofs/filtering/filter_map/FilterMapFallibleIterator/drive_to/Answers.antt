@@ -7,7 +7,7 @@ use Rattle.fallible_contract.specs.Laws.Contract.{lawful_parts}
 use Rattle.fallible_contract.proofs.Lemmas.Folds.{holds_each_turn_by_implication, holds_each_turn_below_from}
 use Rattle.fallible_contract.proofs.Lemmas.Folding.{holds_each_turn_of_source_fold, holds_at_each_turn_of_held, drained_of_holder}
 use Rattle.fallible_contract.proofs.Lemmas.Goals.{driven_of_own, ended_over, failed_over}
-use Rattle.fallible_core.specs.Filtering.FilterMap.{filter_map_outcome, filter_map_made, filter_map_parts}
+use Rattle.fallible_core.specs.Filtering.FilterMap.{filter_map_outcome, filter_map_made}
 use Rattle.fallible_core.specs.Laws.Filtering.FilterMap.{lawful_filter_map}
 use Rattle.std.specs.declared.convert.Infallible.{Infallible}
 use Rattle.fallible_contract.specs.declared.goals.Goal.TheVariants.{Count, Last, Nth}

@@ -2,7 +2,7 @@
 use Rattle.std.specs.Prelude.{Some, Ok}
 use Rattle.fallible_contract.specs.Laws.Contract.{lawful_parts}
 use Rattle.fallible_contract.proofs.Lemmas.Folds.{holds_at_first_turn, holds_each_turn_after_item, driven_by_item_first, driven_end, driven_failure, driven_of_first_break}
-use Rattle.fallible_core.specs.Filtering.SkipWhile.{skip_while_made, skip_while_parts}
+use Rattle.fallible_core.specs.Filtering.SkipWhile.{skip_while_made}
 use Rattle.fallible_core.specs.Laws.Filtering.SkipWhile.{lawful_skip_while}
 use Rattle.fallible_core.proofs.Lemmas.Filtering.SkipWhileFolds.{skipping_flag_is_true_after_item, holds_each_turn_past, drained_past}
 use Rattle.fallible_core.proofs.filtering.skip_while.SkipWhileFallibleIterator.drive.Goals as goal
