@@ -9,7 +9,7 @@ ghost use Rattle.fallible_iterator.specs.Searching.{SearchedBy, find_pick};
 ghost use Rattle.fallible_iterator.specs.Traces.{Answered, item, end};
 
 use fallible_iterator::laws::law_headline;
-use fallible_iterator::{Fault, FallibleIterator, Filter, Map, Take};
+use fallible_iterator::{FallibleIterator, Fault, Filter, Map, Take};
 use std::alloc::Global;
 
 /// How many of the first n items come before an end or a failure, or that failure. They are items of what `take` makes of answers that the definition of `it` allows.
@@ -30,11 +30,7 @@ pub fn first_wanted<
     I: FallibleIterator,
     K: FnMut(&I::Item) -> Result<bool, I::Error>,
     W: FnMut(&I::Item) -> Result<bool, I::Error>,
->(
-    it: I,
-    kept: K,
-    wanted: W,
-) -> Result<Option<I::Item>, I::Error>
+>(it: I, kept: K, wanted: W) -> Result<Option<I::Item>, I::Error>
 where
     I::Item: Drop,
     requires can_next { I.contract.can_next it }

@@ -32,5 +32,6 @@ pub lawful_gathering_by : {S P K A E B F : Type 0} {m : Contract P A E} (view : 
 lawful_gathering_by {m = m} view key made l = record {
   kept_by_draw = λ s r t c w. kept_by_draw_of_gathering view key made m s t r ((lawful_gathering view (made (key s)) l).kept_by_draw s r t c w.0) w.1;
   bounded = λ s. l.bounded (view s);
-  hold = own_hold; traced = λ _ _ _. ((λ h. h), (λ h. h));
+  hold = own_hold;
+  traced = λ _ _ _. ((λ h. h), (λ h. h));
 }

@@ -47,7 +47,8 @@ module _ {S A E : Type 0} (shows : S → List (Result A E)) where
         lenders = refl;
       };
       bounded = λ s. ((λ f. (length (shows s), omega arith)), (λ n. tt));
-      hold = own_hold; traced = λ _ _ _. ((λ h. h), (λ h. h));
+      hold = own_hold;
+      traced = λ _ _ _. ((λ h. h), (λ h. h));
     };
   }
 
