@@ -11,6 +11,9 @@ NAMES = ("sources defined", "adapters defined", "joining adapters defined", "ada
 STRUCT = re.compile(r"^pub struct (\w+)", re.MULTILINE)
 FIELD = re.compile(r"^  -- (.*)\n  pub (\w+) :", re.MULTILINE)
 RECORDS = {"fields of Contract": "Contract", "fields of Ends": "Ends"}
+RECORD = re.compile(r"^ *pub record (\w+)\b[^\n]* where\n((?: +pub [^\n]*\n)+)", re.MULTILINE)
+RAN = re.compile(r"pub (\w*ran) : Run [\w-]*steps\b")
+WORD = re.compile(r"^ *([A-Z]\w*)\b[^=\n]* = ([^\n]*)", re.MULTILINE)
 TWO_ENDS = re.compile(r"\bDoubleEndedFallibleIterator\s+for (&mut I|\w+)")
 
 # Types that consumers make, and no caller sees.
@@ -42,6 +45,22 @@ def fields(crates, record):
     return ["| Field | It says of a value |\n|---|---|", *(f"| `{name}` | {said} |" for said, name in FIELD.findall(begun))]
 
 
+def runs(crates):
+    """The lines of the table of the records that say which draws a call made, with the words that are such a record."""
+    texts = [path.read_text(encoding="utf-8") for crate, _, path in index.files(crates)]
+    records = {name: RAN.findall(fields) for text in texts for name, fields in RECORD.findall(text) if RAN.search(fields)}
+    said = {name: [] for name in records}
+    for word, body in (found for text in texts for found in WORD.findall(text)):
+        for name in records:
+            if re.search(rf"\b{name}\b", body) and word not in said[name]:
+                said[name].append(word)
+    rows = [
+        f"| `{name}` | {', '.join(f'`{field}`' for field in fields)} | {', '.join(f'`{word}`' for word in said[name])} |"
+        for name, fields in records.items()
+    ]
+    return ["| Record | Its draws | Words that are it |\n|---|---|---|", *sorted(rows)]
+
+
 def two_ends(crates):
     """The types that have two ends."""
     texts = [path.read_text(encoding="utf-8") for path in code_of_library(crates)]
@@ -66,4 +85,4 @@ def tables(crates):
         listed[list_of(crate, place)].append(f"[`{name}`](INDEX.md#{place.replace('/', '').lower()})")
     made = {name: [", ".join(links) + "." if links else ""] for name, links in listed.items()}
     made |= {name: fields(crates, record) for name, record in RECORDS.items()}
-    return {**made, "types with two ends": two_ends(crates)}
+    return {**made, "types with two ends": two_ends(crates), "records of draws": runs(crates)}

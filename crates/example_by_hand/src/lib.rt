@@ -3,6 +3,7 @@
 
 pub mod ascii;
 pub mod back;
+pub mod by_definition;
 pub mod byte_lines;
 pub mod digits;
 pub mod drawing;

@@ -17,11 +17,8 @@ mod traces;
 pub use bound::{law_bound, law_bound_ends};
 pub use bridges::{law_back_iterator, law_iterator, law_unwrap};
 pub use comparing::law_eq_is_cmp_equal;
-pub use draws::{law_headline_folds, law_next, law_peek};
-pub use ends::{
-    law_after_front, law_draws, law_interleave, law_interleave_folds, law_interleave_nest,
-    law_rev_rev,
-};
+pub use draws::{law_next, law_peek};
+pub use ends::{law_after_front, law_draws, law_interleave, law_interleave_folds, law_rev_rev};
 pub use fallible_contract::answers::{Answer, Side};
 pub use fallible_core::headline::{law_headline, law_headline_back};
 pub use filtering::law_skip_while;

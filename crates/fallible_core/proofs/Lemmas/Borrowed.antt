@@ -17,24 +17,9 @@ module _ {S A E : Type 0} (steps : S → Answered A E → S → Type 0) where
   run_through_reference [] s t e = ap (λ (u : MutBor S). u.now) e
   run_through_reference (r ∷ rest) s t h = (h.0.now, h.1.0, run_through_reference rest h.0 t h.2)
 
-  pub run_of_borrow : (trace : List (Answered A E)) (s : MutBor S) (x : S) → Run steps s.now trace x → Run step_through s trace (record s { now = x })
-  run_of_borrow [] s x e = ap (λ (y : S). record s { now = y }) e
-  run_of_borrow (r ∷ rest) s x h = let u : MutBor S = record s { now = h.0 } in (u, (h.1, refl), run_of_borrow rest u x h.2)
-
   always_gives_through : (l : List (Result A E)) (s : MutBor S) → AlwaysGives steps s.now l → AlwaysGives step_through s l
   always_gives_through [] s a = λ r t w. a r t.now w.0
   always_gives_through (y ∷ l) s a = λ r t w. let d = a r t.now w.0 in (d.0, always_gives_through l t d.1)
-
-  abbrev in_box : Box S Global → Answered A E → Box S Global → Type 0
-  in_box s r t = steps s.value r t.value
-
-  pub run_of_value_of_run_in_box : (trace : List (Answered A E)) (s t : Box S Global) → Run in_box s trace t → Run steps s.value trace t.value
-  run_of_value_of_run_in_box [] s t e = ap (λ (u : Box S Global). u.value) e
-  run_of_value_of_run_in_box (r ∷ rest) s t h = (h.0.value, h.1, run_of_value_of_run_in_box rest h.0 t h.2)
-
-  pub run_in_box_of_run_of_value : (trace : List (Answered A E)) (s : Box S Global) (x : S) → Run steps s.value trace x → Run in_box s trace (record s { value = x })
-  run_in_box_of_run_of_value [] s x e = ap (λ (y : S). record s { value = y }) e
-  run_in_box_of_run_of_value (r ∷ rest) s x h = let u : Box S Global = record s { value = h.0 } in (u, h.1, run_in_box_of_run_of_value rest u x h.2)
 
 -- it lists what the one that it points to lists
 pub lists_borrowed : {S A E : Type 0} (m : Contract S A E) (s : MutBor S) (l : List (Result A E)) → Lists m.steps s.now l → Lists (borrowed m).steps s l

@@ -16,10 +16,6 @@ Looked {A = A} {E = E} steps s r t = (l : List (Result A E)) → Lists steps s l
 pub counts_down_after_look : {S A E : Type 0} {m : Contract S A E} {s t : S} {left : ℕ} → CountsDown m s left → Stays m s t → CountsDown m t left
 counts_down_after_look counts stays = let k = stays.bound counts.1.0 counts.1.1 in (stays.can_next, (k.0, k.1, (let below = k.2 in let up_to = counts.1.2 in omega arith)))
 
--- and one less is counted after a `next_if` that took an item
-pub counts_down_taken : {S A E : Type 0} (m : Contract S A E) {s t : Peekable S A E} {left less : ℕ} → CountsDown (parts_as peekable_parts (peekable_contract m)) s left → Fewer (peekable_contract m) (peekable_parts s) (peekable_parts t) → Stays (peekable_contract m) (peekable_parts s) (peekable_parts t) → less + 1 ≡ left → CountsDown (parts_as peekable_parts (peekable_contract m)) t less
-counts_down_taken m counts fewer stays one = let k = fewer counts.1.0 counts.1.1 in (stays.can_next, (k.0, k.1, (let below = k.2 in let up_to = counts.1.2 in omega (arith, below, up_to, one))))
-
 module _ {S A E B R : Type 0} (steps : S → Answered A E → S → Type 0) (answers : B → List (Result A E) → R) (t : S) (b : B) (r : Answered A E) where
   lists_after_seen_item : (x : A) (c : B) (v : R) (rest : List (Result A E)) → r ≡ Ok (Some x) → ((l : List (Result A E)) → answers b (Ok x ∷ l) ≡ answers c (Ok x ∷ l)) → (r ≡ nth_of 0 rest) × Lists steps t (rest_look rest) → v ≡ answers b rest → (l : List (Result A E)) × Lists steps t l × (v ≡ answers c l)
   unfolding nth_of rest_look

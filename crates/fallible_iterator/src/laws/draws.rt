@@ -1,12 +1,10 @@
 // What one draw, and one look ahead, returns and leaves of a list.
-ghost use Rattle.std.specs.Prelude.{◌≡◌, ◌++◌, ◌∷◌, [], map, List, Option, Result, Ok, None};
-ghost use Rattle.fallible_contract.specs.Traces.{Answered, item};
-ghost use Rattle.fallible_contract.specs.Folds.{FoldDrains, call_with};
+ghost use Rattle.std.specs.Prelude.{◌≡◌, List, Option, Result, Ok, None};
+ghost use Rattle.fallible_contract.specs.Traces.{Answered};
 ghost use Rattle.fallible_contract.specs.Lists.{Lists, rest_first, nth_of};
 ghost use Rattle.fallible_core.specs.Peeking.Peekable.{Peeks, rest_look, peekable_parts};
 ghost use Rattle.fallible_core.specs.declared.peeking.peekable.Peekable.{Peekable};
 
-use fallible_core::headline::law_headline;
 use fallible_core::peeking::Peekable;
 use fallible_core::traits::FallibleIterator;
 
@@ -18,18 +16,6 @@ pub fn law_next<I: FallibleIterator>()
         → Lists I.contract.steps s l → I.contract.steps s r t → ¬ (r ≡ Ok None)
         → Lists I.contract.steps t (rest_first l) }
 {}
-
-/// What a fold drew is what the source's definition allows: the items that its record names, and then its last answer.
-pub fn law_headline_folds<I: FallibleIterator, B, E, F>()
-where
-    E: From<I::Error>,
-    F: FnMut(B, I::Item) -> Result<B, E>,
-    ensures { (s t : I) (b : B) (f : F) (r : Result B E)
-        (h : FoldDrains I.contract.steps (call_with F.FnMut) E.from_gives s b f r t)
-        → I.contract.traces s (map item h.items ++ h.last ∷ []) t }
-{
-    law_headline::<I>();
-}
 
 /// A peek of a `Peekable` that lists l, which is what `peek` makes: it returns the first of l, and leaves l without a failure that stands first.
 pub fn law_peek<I: FallibleIterator>()

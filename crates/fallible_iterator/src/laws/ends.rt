@@ -1,24 +1,18 @@
 // What is drawn from both ends.
-ghost use Rattle.std.specs.Prelude.{◌≡◌, ℕ, ◌++◌, ◌∷◌, [], map, reverse, Some, None, Ok, Bool, List, Result};
+ghost use Rattle.std.specs.Prelude.{◌≡◌, ℕ, ◌++◌, ◌∷◌, [], map, Some, None, Ok, List, Result};
 ghost use Rattle.fallible_contract.specs.Contract.{Stays};
 ghost use Rattle.fallible_contract.specs.Ends.{from_front};
 ghost use Rattle.fallible_contract.specs.Traces.{Answered, Run, item};
 ghost use Rattle.fallible_contract.specs.Folds.{FoldDrains, NthDrains, call_with};
 ghost use Rattle.fallible_contract.specs.LawForm.{TracesAre};
-ghost use Rattle.fallible_contract.specs.Closures.{call_by_value, call_by_reference};
-ghost use Rattle.fallible_contract.specs.Lists.{Acts, rest_nth, result_answer};
+ghost use Rattle.fallible_contract.specs.Lists.{rest_nth, result_answer};
 ghost use Rattle.fallible_contract.specs.BothEnds.{ListsBothEnds, RunAtEnds, step_at, from_side, Interleaves};
-ghost use Rattle.fallible_core.specs.OneToOne.Map.{mapped, map_parts};
-ghost use Rattle.fallible_core.specs.Filtering.Filter.{filtered, filter_parts};
 ghost use Rattle.fallible_core.specs.Ends.Rev.{rev_parts};
-ghost use Rattle.fallible_iterator.specs.Listing.{DrawsInterleave, DrawsTheSame, ListsAtEachEnd, ListsTheSame};
+ghost use Rattle.fallible_iterator.specs.Listing.{DrawsTheSame, ListsAtEachEnd, ListsTheSame};
 ghost use Rattle.fallible_contract.specs.declared.answers.Side.{Side};
 ghost use Rattle.fallible_contract.specs.declared.answers.Side.TheVariants.{Front, Back};
 
-use super::listed::law_listed;
 use fallible_core::ends::Rev;
-use fallible_core::filtering::Filter;
-use fallible_core::one_to_one::Map;
 use fallible_core::traits::FallibleIterator;
 use fallible_core::traits::double_ended::DoubleEndedFallibleIterator;
 
@@ -52,29 +46,6 @@ where
         → RunAtEnds I.contract.steps I.ends.steps t others u
         → RunAtEnds I.contract.steps I.ends.steps s (drawn ++ others) u }
 {}
-
-/// The law of interleaving of one nest of four types, written out: of draws from both ends of a `Rev` of a `Filter` of a `Map` over any source that lists l, what came from the front, what is left, and what came from the back, reversed, make the reverse of the filtered, mapped l.
-pub fn law_interleave_nest<
-    I: DoubleEndedFallibleIterator,
-    B: Drop,
-    F: FnMut(I::Item) -> Result<B, I::Error>,
-    G: FnMut(&B) -> Result<bool, I::Error>,
->()
-where
-    ensures { (s t : Rev (Filter (Map I F) G)) (inner : Map I F) (it : I) (f : F) (g : G)
-        (h : I.Item → Result B I.Error) (k : B → Result Bool I.Error)
-        (l : List (Result I.Item I.Error)) (drawn : List (Side × Answered B I.Error))
-        → filter_parts (rev_parts s) ≡ (inner, g) → map_parts inner ≡ (it, f)
-        → Acts (call_by_value F.FnMut) f h → Acts (call_by_reference G.FnMut) g k
-        → ListsBothEnds I.contract.steps I.ends.steps it l
-        → DrawsInterleave ⟦<Rev<Filter<Map<I, F>, G>> as FallibleIterator>⟧.contract.steps
-        ⟦<Rev<Filter<Map<I, F>, G>> as DoubleEndedFallibleIterator>⟧.ends.steps
-        (reverse (filtered k (mapped h l))) s drawn t }
-{
-    law_listed::<Map<I, F>>();
-    law_listed::<Filter<Map<I, F>, G>>();
-    law_listed::<Rev<Filter<Map<I, F>, G>>>();
-}
 
 /// What both ends list, draw by draw: a draw from the front takes the first of it, and a draw from the back the last; and each end lists it.
 pub fn law_draws<I: DoubleEndedFallibleIterator>()

@@ -30,11 +30,8 @@ pub trait Listed: DoubleEndedFallibleIterator {
     // The definition: from both ends the value lists this.
     ghost lists: { Self → List (Result Self.Item Self.Error) → Type 0 };
 
-    /// Says of this value that both ends list so. It does nothing: a block that bounds a closure has a method. A caller uses `law_lists`.
-    fn lists_as_defined(&self)
-        ensures { (l : List (Result Self.Item Self.Error)) → lists self.now l
-            → ListsBothEnds Self.contract.steps Self.ends.steps self.now l }
-    {}
+    /// Does nothing: a block that bounds a closure has a method of its own. A caller uses `law_lists`.
+    fn lists_as_defined(&self);
 
     // So it is.
     ghost listed: { (s : Self) (l : List (Result Self.Item Self.Error)) → lists s l
@@ -58,7 +55,8 @@ pub fn law_lists<I: Listed>(s: &I)
     ensures { (l : List (Result I.Item I.Error)) → I.lists s.now l
         → ListsBothEnds I.contract.steps I.ends.steps s.now l }
 {
-    s.lists_as_defined();
+    let _value = s;
+    law_listed::<I>();
 }
 
 /// What a `Rev` lists, its source lists reversed; what a `&mut I` or a `Box<I>` lists, the value lists that it points to. Their definitions say it the other way round.

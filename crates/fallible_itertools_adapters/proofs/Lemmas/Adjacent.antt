@@ -31,19 +31,6 @@ module _ {A E : Type 0} (P : A → A → Type 0) where
   adjacent_items_of_each_next (Err d ∷ l) h [] x y after e = absurd cc
   adjacent_items_of_each_next (Err d ∷ l) h (z ∷ before) x y after e = adjacent_items_of_each_next l h before x y after cc
 
-  adjacent_items_of_rest : (r : Result A E) (l : List (Result A E)) → AdjacentItems P (r ∷ l) → AdjacentItems P l
-  adjacent_items_of_rest r l h before x y after e = h (r ∷ before) x y after (ap {B = List (Result A E)} (λ k. r ∷ k) e)
-
-  holds_of_next_of_adjacent_items : (x : A) (l : List (Result A E)) → AdjacentItems P (Ok x ∷ l) → HoldsOfNext x l
-  holds_of_next_of_adjacent_items x [] h = tt
-  holds_of_next_of_adjacent_items x (Ok y ∷ l) h = h [] x y l refl
-  holds_of_next_of_adjacent_items x (Err e ∷ l) h = tt
-
-  pub each_next_of_adjacent_items : (l : List (Result A E)) → AdjacentItems P l → EachNext l
-  each_next_of_adjacent_items [] h = tt
-  each_next_of_adjacent_items (Ok x ∷ l) h = (holds_of_next_of_adjacent_items x l h, each_next_of_adjacent_items l (adjacent_items_of_rest (Ok x) l h))
-  each_next_of_adjacent_items (Err e ∷ l) h = each_next_of_adjacent_items l (adjacent_items_of_rest (Err e) l h)
-
   -- ---- of items alone
 
   items_of_joined_is_joined_of_items : (xs : List A) (ys : List A) → items {E = E} (xs ++ ys) ≡ items xs ++ items ys

@@ -106,17 +106,6 @@ module _ {S P X Y B L E : Type 0} (steps : S → Answered X E → S → Type 0) 
 -- ---- a type each step of which is one of a stage
 
 module _ {V S P X B L E : Type 0} (view : V → S × (P × Option L)) (steps : S → Answered X E → S → Type 0) (comes : L → Option (Answered B E)) (meets : P → Answered X E → Emitted B L E → P → Type 0) (taken : V → Answered B E → V → Type 0) (each : (u : V) (r : Answered B E) (v : V) → taken u r v → stage_step comes meets steps (view u) r (view v)) where
-  -- nothing is refused, and each item is as it is
-  itself : (y : Result B E) (r : Answered B E) → IsMadeOf (λ z x. x ≡ z) y r → r ≡ result_answer y
-  itself (Ok z) (Ok (Some x)) w = ap (λ k. Ok (Some k)) w
-  itself (Ok z) (Ok None) w = absurd w
-  itself (Ok z) (Err e) w = absurd w
-  itself (Err d) r w = w
-
-  pub always_gives_within : (l : List (Result B E)) (v : V) → GivesUpTo steps comes meets (λ z x. x ≡ z) (λ r t. ⊥) (view v) l → AlwaysGives taken v l
-  always_gives_within [] v g = λ r t w. g r (view t) (each v r t w)
-  always_gives_within (y ∷ l) v g = λ r t w. elim (g r (view t) (each v r t w)) [ inl k ↦ absurd k | inr k ↦ (itself y r k.0, always_gives_within l t k.1) ]
-
   module _ {Y : Type 0} (made : Y → B → Type 0) (from : AllocError → E → Type 0) where
     pub until_refused_within : (l : List (Result Y E)) (v : V) → GivesUpTo steps comes meets made (λ r t. AnswersRefusal from r) (view v) l → GivesUntilRefused made taken from v l
     until_refused_within [] v g = λ r t w. g r (view t) (each v r t w)

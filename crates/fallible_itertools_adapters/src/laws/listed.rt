@@ -22,6 +22,8 @@ impl<'a, T: Copy + 'a, I: DoubleEndedFallibleIterator<Item = &'a T>> Listed for 
         (ListsBothEnds I.contract.steps I.ends.steps) };
 
     ghost listed = { copied_listed I.contract.steps I.ends.steps };
+
+    fn lists_as_defined(&self) {}
 }
 
 /// What its source lists.
@@ -29,6 +31,8 @@ impl<I: DoubleEndedFallibleIterator, F: FnMut(&I::Error)> Listed for InspectErr<
     ghost lists = { λ s l. ListsBothEnds I.contract.steps I.ends.steps (inspect_err_source s) l };
 
     ghost listed = { inspect_err_listed F.FnMut I.contract.steps I.ends.steps };
+
+    fn lists_as_defined(&self) {}
 }
 
 /// What its source lists, with what each failure is converted to in its place.
@@ -36,6 +40,8 @@ impl<I: DoubleEndedFallibleIterator, E: From<I::Error>> Listed for ErrInto<I, E>
     ghost lists = { ListsConverted E.from_gives (ListsBothEnds I.contract.steps I.ends.steps) };
 
     ghost listed = { err_into_listed E.from_gives I.contract.steps I.ends.steps };
+
+    fn lists_as_defined(&self) {}
 }
 
 /// What its source lists, each failure replaced by what its closure makes of it, if the closure acts as a function.
@@ -45,4 +51,6 @@ impl<I: DoubleEndedFallibleIterator, E, F: FnMut(I::Error) -> Result<Option<I::I
         (ListsBothEnds I.contract.steps I.ends.steps) };
 
     ghost listed = { or_else_listed F.FnMut I.contract.steps I.ends.steps };
+
+    fn lists_as_defined(&self) {}
 }

@@ -30,6 +30,8 @@ impl<I: DoubleEndedFallibleIterator, B, F: FnMut(I::Item) -> Result<B, I::Error>
         (ListsBothEnds I.contract.steps I.ends.steps) };
 
     ghost listed = { map_listed F.FnMut I.contract.steps I.ends.steps };
+
+    fn lists_as_defined(&self) {}
 }
 
 /// The items of its source's list, with the closure's failure in the place of each one on which it failed.
@@ -42,6 +44,8 @@ where
         inspected (ListsBothEnds I.contract.steps I.ends.steps) };
 
     ghost listed = { inspect_listed F.FnMut I.contract.steps I.ends.steps };
+
+    fn lists_as_defined(&self) {}
 }
 
 /// Its source's list without the rejected items, with the predicate's failure in the place of each item on which it failed.
@@ -54,6 +58,8 @@ where
         filtered (ListsBothEnds I.contract.steps I.ends.steps) };
 
     ghost listed = { filter_listed F.FnMut I.contract.steps I.ends.steps };
+
+    fn lists_as_defined(&self) {}
 }
 
 /// Its source's list without the items for which its closure returns `None`, with the closure's value or failure in each other item's place.
@@ -63,6 +69,8 @@ impl<I: DoubleEndedFallibleIterator, B, F: FnMut(I::Item) -> Result<Option<B>, I
         filter_mapped (ListsBothEnds I.contract.steps I.ends.steps) };
 
     ghost listed = { filter_map_listed F.FnMut I.contract.steps I.ends.steps };
+
+    fn lists_as_defined(&self) {}
 }
 
 /// A clone in each item's place, if no clone fails and each item has one clone alone; if a clone equals its original, what the items point to.
@@ -75,6 +83,8 @@ where
 
     ghost listed = { clones_listed T.is_clone T.is_infallible I.Error.from_gives
         I.contract.steps I.ends.steps };
+
+    fn lists_as_defined(&self) {}
 }
 
 /// What its closure returns for each failure of its source's list, in the failure's place.
@@ -84,6 +94,8 @@ impl<I: DoubleEndedFallibleIterator, B, F: FnMut(I::Error) -> B> Listed for MapE
 
     ghost listed = { failures_listed_by_closure map_err_parts I.contract.steps I.ends.steps
         (call_by_value F.FnMut) };
+
+    fn lists_as_defined(&self) {}
 }
 
 /// What its first lists and then what its second lists; if one side alone is still drawn, what that side lists, since the other is drawn no more.
@@ -96,6 +108,8 @@ impl<
 
     ghost listed = { both_sides_listed chain_parts T.contract.steps T.ends.steps
         U.contract.steps U.ends.steps };
+
+    fn lists_as_defined(&self) {}
 }
 
 /// The reverse of what its source lists.
@@ -103,6 +117,8 @@ impl<I: DoubleEndedFallibleIterator> Listed for Rev<I> {
     ghost lists = { ListsChanged rev_parts reverse (ListsBothEnds I.contract.steps I.ends.steps) };
 
     ghost listed = { reversed_listed rev_parts I.contract.steps I.ends.steps };
+
+    fn lists_as_defined(&self) {}
 }
 
 /// What is buffered and then what its source lists; with a buffered `Ok(None)` nothing, if its source lists nothing.
@@ -113,6 +129,8 @@ where
     ghost lists = { ListsHeld peekable_parts (ListsBothEnds I.contract.steps I.ends.steps) };
 
     ghost listed = { held_listed I.contract I.ends };
+
+    fn lists_as_defined(&self) {}
 }
 
 /// What the value lists that it points to.
@@ -120,6 +138,8 @@ impl<I: DoubleEndedFallibleIterator> Listed for &mut I {
     ghost lists = { λ s l. ListsBothEnds I.contract.steps I.ends.steps s.now l };
 
     ghost listed = { borrowed_listed I.contract I.ends };
+
+    fn lists_as_defined(&self) {}
 }
 
 /// What the value lists that it points to.
@@ -127,4 +147,6 @@ impl<I: DoubleEndedFallibleIterator> Listed for Box<I> {
     ghost lists = { λ s l. ListsBothEnds I.contract.steps I.ends.steps s.value l };
 
     ghost listed = { boxed_listed I.contract I.ends };
+
+    fn lists_as_defined(&self) {}
 }

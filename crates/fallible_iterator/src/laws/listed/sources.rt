@@ -17,6 +17,8 @@ impl<T, E, I: std::iter::DoubleEndedIterator<Item = Result<T, E>>> Listed for Co
 
     ghost listed = { convert_listed I.can_next I.can_next_back I.next_gives I.next_back_gives
         I.remaining };
+
+    fn lists_as_defined(&self) {}
 }
 
 /// What the std iterator lists, each element an item; so also what is left of one whose state shows that.
@@ -26,6 +28,8 @@ impl<T, I: std::iter::DoubleEndedIterator<Item = T>> Listed for IntoFallible<I> 
 
     ghost listed = { into_fallible_listed I.can_next I.can_next_back I.next_gives
         I.next_back_gives I.remaining };
+
+    fn lists_as_defined(&self) {}
 }
 
 /// Its item, and nothing once that was drawn.
@@ -33,6 +37,8 @@ impl<T: Drop, E> Listed for Once<T, E> {
     ghost lists = { ListsOne once_parts (λ x. Ok x) };
 
     ghost listed = { once_listed };
+
+    fn lists_as_defined(&self) {}
 }
 
 /// Its failure, and nothing once that was drawn.
@@ -40,6 +46,8 @@ impl<T, E: Drop> Listed for OnceErr<T, E> {
     ghost lists = { ListsOne once_err_parts (λ e. Err e) };
 
     ghost listed = { once_err_listed };
+
+    fn lists_as_defined(&self) {}
 }
 
 /// Nothing.
@@ -47,4 +55,6 @@ impl<T, E> Listed for Empty<T, E> {
     ghost lists = { λ s l. l ≡ [] };
 
     ghost listed = { empty_listed };
+
+    fn lists_as_defined(&self) {}
 }
