@@ -1,5 +1,5 @@
 //! How much is read of a file.
-ghost use Rattle.std.specs.Prelude.{◌≡◌, ◌≢◌, ◌^◌, ◌-◌, Ok, Err, IfOk, IfErr, IsTrue};
+ghost use Rattle.std.specs.Prelude.{◌≡◌, ◌≢◌, ◌^◌, ◌-◌, ◌⊎◌, Ok, Err, IfOk, IfErr, IsTrue, false};
 ghost use Rattle.fallible_elf.specs.Report.{HasSectionsOf, HasFound, HasTables, found_of, named_sections, ranges_apart};
 ghost use Rattle.fallible_elf.specs.Sets.{saturating_count, ranges_of, sets_of};
 ghost use Rattle.fallible_elf.specs.declared.fault.ElfFault.{ElfFault};
@@ -54,15 +54,18 @@ fn ranges_apart(alloc: Global, file: &[u8]) -> Result<(), Fault<ElfFault>>
 
 // Whether the counts are no bound at which they stopped.
 fn is_exact(found: Found) -> bool
-    ensures { IsTrue result → (found.sets ≢ 2 ^ 64 - 1) × (found.ranges ≢ 2 ^ 64 - 1) }
+    ensures exact { IsTrue result → (found.sets ≢ 2 ^ 64 - 1) × (found.ranges ≢ 2 ^ 64 - 1) }
+    ensures stopped { result ≡ false → (found.sets ≡ 2 ^ 64 - 1) ⊎ (found.ranges ≡ 2 ^ 64 - 1) }
 {
     found.sets != usize::MAX && found.ranges != usize::MAX
 }
 
 // The counts, if they are exact.
 fn exact(found: Found) -> Result<Found, AllocError>
-    ensures { IfOk result (λ counts. (counts ≡ found) × (found.sets ≢ 2 ^ 64 - 1)
+    ensures ok { IfOk result (λ counts. (counts ≡ found) × (found.sets ≢ 2 ^ 64 - 1)
         × (found.ranges ≢ 2 ^ 64 - 1)) }
+    ensures refused { IfErr result (λ _. (found.sets ≡ 2 ^ 64 - 1)
+        ⊎ (found.ranges ≡ 2 ^ 64 - 1)) }
 {
     // No memory: more than 2 ^ 64 - 1 sets or ranges, of some bytes each, have room in none.
     if !is_exact(found) {

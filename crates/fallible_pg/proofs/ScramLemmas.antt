@@ -1,7 +1,7 @@
 -- Lemmas on the words of SCRAM.
 use Rattle.std.proofs.Common.{inl, inr, ◌≡◌, ℕ, suc, ◌+◌, ◌^◌, ◌<◌, ◌&&◌, Bool, true, false, cond, if◌then◌else◌, nat_le, nat_lt, List, [], ◌∷◌, ◌++◌, length, take, drop, slice_index, Some, None, IsAscii, IsUtf8, refl, sym, ap, subst, ◌∙◌, arith, append_assoc}
 use Rattle.std.proofs.Math.Seq.{drop-append_seam}
-use Rattle.std.proofs.lemmas.Bool.{and_parts, both_ways, cases_eq, eq-eqb, leb-true, ne_eqb}
+use Rattle.std.proofs.lemmas.Bool.{and_from, and_parts, both_ways, cases_eq, eq-eqb, leb-true, lt-ltb, ltb-true, ne_eqb}
 use Rattle.std.proofs.lemmas.Str.{IsUtf8-from_ascii}
 use Rattle.std.proofs.lemmas.Str.Ascii.{IsAscii-nil, IsAscii-cons}
 use Rattle.std.proofs.lemmas.Slice.Eq.{bytes_eq-Decides}
@@ -15,7 +15,7 @@ use Rattle.fallible_pg.proofs.Base64ReadLemmas.{base64_plain}
 use Rattle.fallible_pg.proofs.StringLemmas.{before-again, before-plain}
 use Rattle.std.specs.Int.Bits.{bit_xor}
 use Rattle.std.specs.Prelude.{bytes_eq, codes}
-use Rattle.fallible_pg.specs.Scram.{Asks, digits_part, nonce_part, salt_part, salted_part, xored}
+use Rattle.fallible_pg.specs.Scram.{Asks, digits_part, nonce_part, rounds_of, salt_part, salted_part, xored}
 
 pub xored-none : (a b : List ℕ) → [] ≡ xored 0 a b
 unfolding xored
@@ -101,23 +101,29 @@ module _ {own asked nonce salt digits : List ℕ} {rounds : ℕ} (a : Asks own a
       ∙ ap (λ u. codes "r=" ++ nonce ++ codes ",s=" ++ base64 salt ++ codes ",i=" ++ u) (third ∙ digits_is)
       ∙ sym a.is
 
-  -- that text begins with the client's own
-  pub repeats_own : {n : List ℕ} → n ≡ nonce_part asked → take (length own) n ≡ own
-  repeats_own first = ap (take (length own)) (first ∙ nonce_is) ∙ a.repeats
+  -- that text begins with the client's own, and goes on
+  pub goes_on : {n : List ℕ} → n ≡ nonce_part asked → (nat_lt (length own) (length n) && bytes_eq (take (length own) n) own) ≡ true
+  goes_on {n} first =
+      let same = first ∙ nonce_is in
+      ap (λ k. nat_lt (length own) (length k) && bytes_eq (take (length own) k) own) same
+      ∙ and_from (nat_lt (length own) (length nonce)) (bytes_eq (take (length own) nonce) own) (lt-ltb (length own) (length nonce) a.adds) ((bytes_eq-Decides (take (length own) nonce) own).1 a.repeats)
 
   -- its digits write the number
-  pub counts : number_of (digits_part asked) ≡ Some rounds
-  counts = ap number_of digits_is ∙ a.counted
+  pub counts : rounds_of (digits_part asked) ≡ Some rounds
+  counts = ap rounds_of digits_is ∙ a.counted
 
 -- A text that isn't what it should be, by a test, is not.
 pub test_fails : {xs ys : List ℕ} {test : Bool} → test ≡ bytes_eq xs ys → test ≡ false → xs ≡ ys → ⊥
 test_fails {xs} {ys} is fails same = both_ways _ (sym is ∙ fails) ((bytes_eq-Decides xs ys).1 same)
 
 -- The parts of a text that pass the tests are those by which a server asks well.
-pub asks_well : {own asked nonce salt64 digits : List ℕ} {salt : List ℕ} {rounds : ℕ} {has begins : Bool} → nonce ≡ nonce_part asked → base64 salt ≡ salt64 → number_of digits ≡ Some rounds → has ≡ bytes_eq (codes "r=" ++ nonce ++ codes ",s=" ++ salt64 ++ codes ",i=" ++ digits) asked → has ≡ true → begins ≡ bytes_eq (take (length own) nonce) own → begins ≡ true → Asks own asked nonce salt digits rounds
-asks_well {own} {asked} {nonce} {salt64} {digits} nonce_is salt_is counted has_is has begins_is begins = record {
+pub asks_well : {own asked nonce salt64 digits : List ℕ} {salt : List ℕ} {rounds : ℕ} {has goes_on : Bool} → nonce ≡ nonce_part asked → base64 salt ≡ salt64 → rounds_of digits ≡ Some rounds → has ≡ bytes_eq (codes "r=" ++ nonce ++ codes ",s=" ++ salt64 ++ codes ",i=" ++ digits) asked → has ≡ true → goes_on ≡ (nat_lt (length own) (length nonce) && bytes_eq (take (length own) nonce) own) → goes_on ≡ true → Asks own asked nonce salt digits rounds
+asks_well {own} {asked} {nonce} {salt64} {digits} nonce_is salt_is counted has_is has goes_is goes =
+    let both = and_parts (nat_lt (length own) (length nonce)) (bytes_eq (take (length own) nonce) own) (sym goes_is ∙ goes) in
+    record {
   is = sym (ap (λ s. codes "r=" ++ nonce ++ codes ",s=" ++ s ++ codes ",i=" ++ digits) salt_is ∙ (bytes_eq-Decides (codes "r=" ++ nonce ++ codes ",s=" ++ salt64 ++ codes ",i=" ++ digits) asked).0 (sym has_is ∙ has));
   counted = counted;
-  repeats = (bytes_eq-Decides (take (length own) nonce) own).0 (sym begins_is ∙ begins);
+  repeats = (bytes_eq-Decides (take (length own) nonce) own).0 both.1;
+  adds = ltb-true (length own) (length nonce) both.0;
   plain = ap (before 44) nonce_is ∙ before-again 44 (drop 2 asked) ∙ sym nonce_is;
 }

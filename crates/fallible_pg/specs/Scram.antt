@@ -1,5 +1,5 @@
 -- The words of SCRAM-SHA-256, over a hash.
-use Rattle.std.specs.Prelude.{◌≡◌, ℕ, zero, suc, List, [], ◌∷◌, ◌++◌, length, take, drop, slice_index, Some, codes, vec_items}
+use Rattle.std.specs.Prelude.{◌≡◌, ◌<◌, ◌&&◌, if◌then◌else◌, ℕ, zero, suc, List, [], ◌∷◌, ◌++◌, length, take, drop, nat_le, nat_lt, slice_index, Option, Some, None, codes, vec_items}
 use Rattle.std.specs.Int.{w32, to_be_bytes}
 use Rattle.std.specs.Int.Bits.{bit_xor}
 use Rattle.program_io.specs.Numbers.{number_of}
@@ -28,11 +28,16 @@ sent_first nonce = sent_message (codes "p") (codes "SCRAM-SHA-256" ++ 0 ∷ to_b
 abbrev pub asked_words : List ℕ → List ℕ → List ℕ → List ℕ
 asked_words nonce salt digits = codes "r=" ++ nonce ++ codes ",s=" ++ base64 salt ++ codes ",i=" ++ digits
 
--- A server asks well: it asks in these words, the digits write a number, and its text begins with the client's own and has no comma.
+-- the number of rounds that digits write, if they write one; no 0 and no plus stands first
+abbrev pub rounds_of : List ℕ → Option ℕ
+rounds_of digits = if nat_le 1 (length digits) && nat_lt 48 (slice_index digits 0) then number_of digits else None
+
+-- A server asks well: it asks in these words, the digits write a number of rounds, and its text begins with the client's own, goes on, and has no comma.
 pub record Asks (own asked nonce salt digits : List ℕ) (rounds : ℕ) : Type 0 where
   pub is : asked ≡ asked_words nonce salt digits
-  pub counted : number_of digits ≡ Some rounds
+  pub counted : rounds_of digits ≡ Some rounds
   pub repeats : take (length own) nonce ≡ own
+  pub adds : length own < length nonce
   pub plain : before 44 nonce ≡ nonce
 
 -- The parts that a text has, if a server asks well by it: the client's text with the server's

@@ -1,6 +1,7 @@
 //! Bytes as text in base64, with padding.
-ghost use Rattle.std.specs.Prelude.{◌≡◌, ◌<◌, ◌++◌, ℕ, List, IfOk, MatchOption, length, vec_items};
+ghost use Rattle.std.specs.Prelude.{◌≡◌, ◌<◌, ◌++◌, ℕ, List, MatchOption, MatchResult, length, vec_items};
 ghost use Rattle.fallible_pg.specs.Base64.{base64, bytes_in, number_in, read_loosely, symbol, symbols_of};
+ghost use Rattle.fallible_pg.specs.declared.sending.Unsent.TheVariants.{Memory};
 
 use crate::sending::Unsent;
 use std::alloc::Global;
@@ -38,7 +39,8 @@ fn symbols_of(a: u8, b: u8, c: u8) -> [u8; 4]
 // Adds the symbols of fewer than three bytes, with equals signs after them.
 fn push_last(text: &mut Vec<u8>, bytes: &[u8]) -> Result<(), Unsent>
     requires { length bytes.now < 3 }
-    ensures { IfOk result (λ _. text.new.items ≡ text.old.items ++ base64 bytes.now) }
+    ensures { MatchResult result (λ _. text.new.items ≡ text.old.items ++ base64 bytes.now)
+        (λ why. why ≡ Memory) }
 {
     if bytes.is_empty() {
         return Ok(());
@@ -60,7 +62,7 @@ fn push_last(text: &mut Vec<u8>, bytes: &[u8]) -> Result<(), Unsent>
 
 // Bytes in base64.
 pub(crate) fn base64(alloc: Global, bytes: &[u8]) -> Result<Vec<u8>, Unsent>
-    ensures { IfOk result (λ text. vec_items text ≡ base64 bytes.now) }
+    ensures { MatchResult result (λ text. vec_items text ≡ base64 bytes.now) (λ why. why ≡ Memory) }
 {
     let mut text = Vec::new(alloc);
     let groups = bytes.len() / 3;
@@ -92,7 +94,8 @@ fn number_of(symbol: u8) -> u8
 
 // Adds the bytes that four symbols may stand for: one where two equals signs end them, two where one does.
 fn push_bytes(bytes: &mut Vec<u8>, a: u8, b: u8, c: u8, d: u8) -> Result<(), Unsent>
-    ensures { IfOk result (λ _. bytes.new.items ≡ bytes.old.items ++ bytes_in a b c d) }
+    ensures { MatchResult result (λ _. bytes.new.items ≡ bytes.old.items ++ bytes_in a b c d)
+        (λ why. why ≡ Memory) }
 {
     let first = number_of(a) * 4 + number_of(b) / 16;
     let second = number_of(b) % 16 * 16 + number_of(c) / 4;
@@ -109,7 +112,8 @@ fn push_bytes(bytes: &mut Vec<u8>, a: u8, b: u8, c: u8, d: u8) -> Result<(), Uns
 
 // The bytes that a text may write in base64. Whether it does is for the caller to see.
 fn read_loosely(alloc: Global, text: &[u8]) -> Result<Vec<u8>, Unsent>
-    ensures { IfOk result (λ bytes. vec_items bytes ≡ read_loosely text.now) }
+    ensures { MatchResult result (λ bytes. vec_items bytes ≡ read_loosely text.now)
+        (λ why. why ≡ Memory) }
 {
     let mut bytes = Vec::new(alloc);
     for group in 0..text.len() / 4 {
@@ -127,9 +131,9 @@ fn read_loosely(alloc: Global, text: &[u8]) -> Result<Vec<u8>, Unsent>
 
 // The bytes that a text writes in base64, if it writes some.
 pub(crate) fn from_base64(alloc: Global, text: &[u8]) -> Result<Option<Vec<u8>>, Unsent>
-    ensures { IfOk result (λ found. MatchOption found
+    ensures { MatchResult result (λ found. MatchOption found
         ((bytes : List ℕ) → ¬ (base64 bytes ≡ text.now))
-        (λ bytes. base64 (vec_items bytes) ≡ text.now)) }
+        (λ bytes. base64 (vec_items bytes) ≡ text.now)) (λ why. why ≡ Memory) }
 {
     let bytes = read_loosely(alloc, text)?;
     let again = base64(alloc, &bytes)?;

@@ -1,8 +1,9 @@
 //! The words of SCRAM-SHA-256 (RFC 5802 and RFC 7677), over a hash that is handed in.
-ghost use Rattle.std.specs.Prelude.{◌≡◌, ◌≤◌, ◌++◌, ℕ, List, length, bytes_eq, codes, take, drop, IfOk, MatchOption, vec_items};
-ghost use Rattle.fallible_pg.specs.Scram.{Answers, Asks, answer_says, answer_wants, answer_words, digits_part, last_words, nonce_part, said_words, salt_part, sent_first, xored};
+ghost use Rattle.std.specs.Prelude.{◌≡◌, ◌<◌, ◌≤◌, ◌++◌, ◌&&◌, ℕ, List, length, bytes_eq, codes, take, drop, nat_lt, MatchOption, MatchResult, vec_items};
+ghost use Rattle.fallible_pg.specs.Scram.{Answers, Asks, answer_says, answer_wants, answer_words, digits_part, last_words, nonce_part, rounds_of, said_words, salt_part, sent_first, xored};
 ghost use Rattle.fallible_pg.specs.Sent.{sent_message};
 ghost use Rattle.program_io.specs.Numbers.{number_of};
+ghost use Rattle.fallible_pg.specs.declared.sending.Unsent.TheVariants.{Long, Memory};
 
 use crate::base64::{base64, from_base64};
 use crate::sending::{Unsent, message_of};
@@ -37,7 +38,8 @@ pub trait Hash {
 
 // Texts one after the other.
 fn concatenated(alloc: Global, a: &[u8], b: &[u8], c: &[u8]) -> Result<Vec<u8>, Unsent>
-    ensures { IfOk result (λ text. vec_items text ≡ a.now ++ b.now ++ c.now) }
+    ensures { MatchResult result (λ text. vec_items text ≡ a.now ++ b.now ++ c.now)
+        (λ why. why ≡ Memory) }
 {
     let mut text = Vec::new(alloc);
     text.extend_from_slice(a)?;
@@ -48,7 +50,9 @@ fn concatenated(alloc: Global, a: &[u8], b: &[u8], c: &[u8]) -> Result<Vec<u8>, 
 
 /// What a client sends first, by a text of its own that no one can guess, without a comma. It fails with `Long` only above 1,073,741,792 bytes.
 pub fn scram_first_message(alloc: Global, nonce: &[u8]) -> Result<Vec<u8>, Unsent>
-    ensures { IfOk result (λ sent. vec_items sent ≡ sent_first nonce.now) }
+    ensures { MatchResult result
+        (λ sent. (vec_items sent ≡ sent_first nonce.now) × (length nonce.now ≤ 1073741792))
+        (λ why. why ≡ Long → 1073741792 < length nonce.now) }
 {
     let words = concatenated(alloc, b"n,,", b"n=,r=", nonce)?;
     if words.len() > 1_073_741_800 {
@@ -101,9 +105,9 @@ fn parts_of(asked: &[u8]) -> Question<'_>
 
 // Whether a text that a server asks has these parts.
 fn has_parts(alloc: Global, asked: &[u8], parts: Question<'_>) -> Result<bool, Unsent>
-    ensures { IfOk result (λ has. has ≡ bytes_eq
+    ensures { MatchResult result (λ has. has ≡ bytes_eq
         (codes "r=" ++ parts.entry.nonce.now ++ codes ",s=" ++ parts.entry.salt.now ++ codes ",i="
-        ++ parts.entry.digits.now) asked.now) }
+        ++ parts.entry.digits.now) asked.now) (λ why. why ≡ Memory) }
 {
     let last = concatenated(alloc, parts.salt, b",i=", parts.digits)?;
     let rest = concatenated(alloc, parts.nonce, b",s=", last.as_slice())?;
@@ -111,28 +115,41 @@ fn has_parts(alloc: Global, asked: &[u8], parts: Question<'_>) -> Result<bool, U
     Ok(text.as_slice() == asked)
 }
 
-// The number that digits write, if they write one.
-fn rounds_of(digits: &[u8]) -> Option<u64>
-    ensures { result ≡ number_of digits.now }
+// The number that a text writes, if it writes one.
+fn number_in(text: &[u8]) -> Option<u64>
+    ensures { result ≡ number_of text.now }
 {
-    match from_utf8(digits) {
+    match from_utf8(text) {
         Ok(text) => number_of(text),
         Err(_) => None,
     }
 }
 
-// Whether a text begins with another.
-fn begins_with(text: &[u8], start: &[u8]) -> bool
-    ensures { result ≡ bytes_eq (take (length start.now) text.now) start.now }
+// The number of rounds that digits write, if they write one.
+fn rounds_of(digits: &[u8]) -> Option<u64>
+    ensures { result ≡ rounds_of digits.now }
 {
-    start.len() <= text.len() && &text[..start.len()] == start
+    if digits.len() >= 1 && digits[0] > b'0' {
+        number_in(digits)
+    } else {
+        None
+    }
+}
+
+// Whether a text begins with another and goes on.
+fn goes_on_from(text: &[u8], start: &[u8]) -> bool
+    ensures { result ≡ (nat_lt (length start.now) (length text.now)
+        && bytes_eq (take (length start.now) text.now) start.now) }
+{
+    start.len() < text.len() && &text[..start.len()] == start
 }
 
 // The first 32 bytes of two texts, joined by exclusive or.
 fn xored(alloc: Global, a: &[u8], b: &[u8]) -> Result<Vec<u8>, Unsent>
     requires first { 32 ≤ length a.now }
     requires second { 32 ≤ length b.now }
-    ensures { IfOk result (λ both. vec_items both ≡ xored 32 a.now b.now) }
+    ensures { MatchResult result (λ both. vec_items both ≡ xored 32 a.now b.now)
+        (λ why. why ≡ Memory) }
 {
     let mut both = Vec::new(alloc);
     for place in 0..32 {
@@ -143,7 +160,8 @@ fn xored(alloc: Global, a: &[u8], b: &[u8]) -> Result<Vec<u8>, Unsent>
 
 // All that was said, of which both prove that they know the password.
 fn said_words(alloc: Global, own: &[u8], asked: &[u8], nonce: &[u8]) -> Result<Vec<u8>, Unsent>
-    ensures { IfOk result (λ said. vec_items said ≡ said_words own.now asked.now nonce.now) }
+    ensures { MatchResult result (λ said. vec_items said ≡ said_words own.now asked.now nonce.now)
+        (λ why. why ≡ Memory) }
 {
     let first = concatenated(alloc, b"n=,r=", own, b",")?;
     let last = concatenated(alloc, b",", b"c=biws,r=", nonce)?;
@@ -158,8 +176,8 @@ fn answer_words<H: Hash>(
     stretched: &[u8],
     said: &[u8],
 ) -> Result<Vec<u8>, Unsent>
-    ensures { IfOk result (λ words. vec_items words
-        ≡ answer_words H.hash H.hmac nonce.now stretched.now said.now) }
+    ensures { MatchResult result (λ words. vec_items words
+        ≡ answer_words H.hash H.hmac nonce.now stretched.now said.now) (λ why. why ≡ Memory) }
 {
     let key = hash.hmac(stretched, b"Client Key");
     let stored = hash.hash(&key);
@@ -177,8 +195,8 @@ fn last_words<H: Hash>(
     stretched: &[u8],
     said: &[u8],
 ) -> Result<Vec<u8>, Unsent>
-    ensures { IfOk result (λ words. vec_items words
-        ≡ last_words H.hash H.hmac stretched.now said.now) }
+    ensures { MatchResult result (λ words. vec_items words
+        ≡ last_words H.hash H.hmac stretched.now said.now) (λ why. why ≡ Memory) }
 {
     let key = hash.hmac(stretched, b"Server Key");
     let signature = hash.hmac(&key, said);
@@ -193,7 +211,7 @@ pub struct Answer {
     wanted: Vec<u8>,
 }
 
-/// The answer to what a server asks, after the client sent a text of its own first; `None` only where the server doesn't ask well: in other words, with a number of rounds that is none, or by a text that doesn't begin with the client's or has a comma. It never fails with `Long`.
+/// The answer to what a server asks, after the client sent a text of its own first; `None` only where the server doesn't ask well: in other words, with a number of rounds that is none or begins with a 0 or a plus, or by a text that adds nothing to the client's, doesn't begin with it, or has a comma. It never fails with `Long`.
 pub fn answer_of<H: Hash>(
     alloc: Global,
     hash: &H,
@@ -201,10 +219,10 @@ pub fn answer_of<H: Hash>(
     own: &[u8],
     asked: &[u8],
 ) -> Result<Option<Answer>, Unsent>
-    ensures { IfOk result (λ found. MatchOption found
+    ensures { MatchResult result (λ found. MatchOption found
         ((nonce salt digits : List ℕ) (rounds : ℕ) → ¬ (Asks own.now asked.now nonce salt digits rounds))
         (λ answer. Answers H.hash H.hmac H.stretch password.now own.now asked.now
-        (answer_says answer) (answer_wants answer))) }
+        (answer_says answer) (answer_wants answer))) (λ why. why ≡ Memory) }
 {
     let parts = parts_of(asked);
     let Some(salt) = from_base64(alloc, parts.salt)? else {
@@ -213,7 +231,7 @@ pub fn answer_of<H: Hash>(
     let Some(rounds) = rounds_of(parts.digits) else {
         return Ok(None);
     };
-    if !has_parts(alloc, asked, parts)? || !begins_with(parts.nonce, own) {
+    if !has_parts(alloc, asked, parts)? || !goes_on_from(parts.nonce, own) {
         return Ok(None);
     }
     let stretched = hash.stretch(password, &salt, rounds);
@@ -226,8 +244,10 @@ pub fn answer_of<H: Hash>(
 impl Answer {
     /// The message that says it. It fails with `Long` only above 1,073,741,819 bytes.
     pub fn message(&self, alloc: Global) -> Result<Vec<u8>, Unsent>
-        ensures { IfOk result (λ sent. vec_items sent
-            ≡ sent_message (codes "p") (answer_says self.now)) }
+        ensures { MatchResult result
+            (λ sent. (vec_items sent ≡ sent_message (codes "p") (answer_says self.now))
+            × (length (answer_says self.now) ≤ 1073741819))
+            (λ why. why ≡ Long → 1073741819 < length (answer_says self.now)) }
     {
         message_of(alloc, b"p", &self.words)
     }
