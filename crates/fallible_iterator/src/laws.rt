@@ -4,7 +4,6 @@ mod bridges;
 mod comparing;
 mod draws;
 mod ends;
-mod filtering;
 mod for_good;
 pub mod hints;
 mod joining;
@@ -21,7 +20,6 @@ pub use draws::{law_next, law_peek};
 pub use ends::{law_after_front, law_draws, law_interleave, law_interleave_folds, law_rev_rev};
 pub use fallible_contract::answers::{Answer, Side};
 pub use fallible_core::headline::{law_headline, law_headline_back};
-pub use filtering::law_skip_while;
 pub use for_good::{law_take_for_good, law_take_while_for_good};
 pub use joining::{
     law_cycle_taken, law_cycle_until_refused, law_flat_map_finite, law_flatten_finite,

@@ -4,7 +4,7 @@ use Rattle.std.specs.Prelude.{◌≡◌, List, Option, Some, None, ℕ, ⊤, Res
 use Rattle.std.specs.Fn.{Mut}
 use Rattle.std.specs.Borrow.{Bor}
 use Rattle.std.specs.List.{filter_map}
-use Rattle.fallible_contract.specs.Traces.{Answered, Run, LastKept}
+use Rattle.fallible_contract.specs.Traces.{Answered, LastKept}
 use Rattle.fallible_contract.specs.Sound.{SoundWhere}
 use Rattle.fallible_contract.specs.Contract.{Inverse, Contract}
 use Rattle.fallible_contract.specs.Closures.{Calls, IsCallable, call_by_reference, takes_by_reference}
@@ -64,10 +64,10 @@ AskedUntilFalse false met after true = EndsAtFalse met
 AskedUntilFalse false met after false = NeverFalse met × (after ≡ []) × LastKept (has_answer asked_outcome) met
 
 -- `SkipWhile`, with the flag beside the predicate: the source's trace is what came while the predicate was called, up to its first false, and what came after. Its own trace is the first part without the items for which the predicate returned true, an item on which it failed being replaced by that failure, and then the whole second part.
-pub record SkipWhileTrace {S F X E : Type 0} (steps : S → Answered X E → S → Type 0) (call : F → X → Result Bool E → F → Type 0) (p : S × (Bool × F)) (trace : List (Answered X E)) (q : S × (Bool × F)) : Type 0 where
+pub record SkipWhileTrace {S F X E : Type 0} (traces : S → List (Answered X E) → S → Type 0) (call : F → X → Result Bool E → F → Type 0) (p : S × (Bool × F)) (trace : List (Answered X E)) (q : S × (Bool × F)) : Type 0 where
   pub met : List (Place X (Result Bool E) E)
   pub after : List (Answered X E)
-  pub drawn : Run steps p.0 (map source_answer met ++ after) q.0
+  pub drawn : traces p.0 (map source_answer met ++ after) q.0
   pub called : Calls call (p.1).1 (filter_map call_of met) (q.1).1
   pub answers : trace ≡ filter_map (answer_at asked_outcome) met ++ after
   pub until_false : AskedUntilFalse (p.1).0 met after (q.1).0
@@ -82,7 +82,7 @@ skip_while_sound w = record { above = λ p high. w.above p.0 high; below = λ p 
 
 -- `SkipWhile`'s contract.
 abbrev pub skip_while_contract : {S F X E : Type 0} → Contract S X E → Mut F (Bor X × Unit {0}) (Result Bool E) → Contract (S × (Bool × F)) X E
-skip_while_contract m g = record (leaving_out_contract m (skip_call (call_by_reference g)) (λ P p. IsCallable (skip_call (call_by_reference g)) (skip_takes (takes_by_reference g)) P p) skip_while_outcome (skip_while_hints m)) { sound = skip_while_sound m.sound }
+skip_while_contract m g = record (leaving_out_contract m (skip_call (call_by_reference g)) (λ P p. IsCallable (skip_call (call_by_reference g)) (skip_takes (takes_by_reference g)) P p) skip_while_outcome (skip_while_hints m)) { traces = SkipWhileTrace m.traces (call_by_reference g); sound = skip_while_sound m.sound }
 
 -- the source
 abbrev pub skip_while_source : {I P : Type 0} → SkipWhile I P → I

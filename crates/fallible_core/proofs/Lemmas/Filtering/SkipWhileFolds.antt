@@ -11,7 +11,7 @@ use Rattle.fallible_contract.specs.Laws.Passing.{Passes, done, end_passes, failu
 use Rattle.fallible_contract.proofs.Lemmas.Folding.{holds_at_each_turn_of_held, drained_of_holder}
 use Rattle.fallible_core.specs.Filtering.SkipWhile.{skip_call, skip_while_outcome, skip_while_contract, skip_while_parts}
 use Rattle.fallible_core.specs.Laws.Hints.Filtering.{runs_without_calls_after_false}
-use Rattle.fallible_core.proofs.Lemmas.Filtering.SkipWhile.{skip_passes_of_run_after_false}
+use Rattle.fallible_core.specs.Laws.Filtering.SkipWhile.{skip_passes_of_run_after_false}
 use Rattle.fallible_core.specs.declared.filtering.skip_while.SkipWhile.{SkipWhile}
 
 module _ {S F X E : Type 0} (steps_of_skip_while_folds : S → Answered X E → S → Type 0) (call : F → X → Result Bool E → F → Type 0) where
