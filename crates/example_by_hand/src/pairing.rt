@@ -1,12 +1,12 @@
 //! An adapter of one's own that draws two items for one.
-ghost use Rattle.std.specs.Prelude.{◌≡◌, ◌↔◌, ℕ, ◌+◌, ◌-◌, ◌%◌, ◌^◌, ◌<◌, List, [], Option, Result, Bool, Ok};
+ghost use Rattle.std.specs.Prelude.{◌≡◌, ◌↔◌, ℕ, ◌+◌, ◌-◌, ◌%◌, ◌^◌, ◌<◌, List, Option, Result, Bool, Ok};
 ghost use Rattle.std.specs.Borrow.{Bor};
 ghost use Rattle.fallible_iterator.specs.Contract.{AtMost};
-ghost use Rattle.fallible_iterator.specs.Filtering.Filter.{FilterTrace, filter_predicate, filter_source};
+ghost use Rattle.fallible_iterator.specs.Filtering.Filter.{FilterTrace, filter_parts};
 ghost use Rattle.fallible_iterator.specs.Laws.Own.{lawful_gathering};
 ghost use Rattle.fallible_iterator.specs.Lists.{Lists, counted, folded, mapped};
 ghost use Rattle.fallible_iterator.specs.Own.{Gathers, gathering};
-ghost use Rattle.fallible_iterator.specs.Traces.{Answered, Run, first_of};
+ghost use Rattle.fallible_iterator.specs.Traces.{Answered, Run};
 ghost use Rattle.example_by_hand.specs.Pairs.{MakesPair, paired};
 
 use fallible_iterator::laws::law_headline;
@@ -102,11 +102,9 @@ where
     ensures { (s : Filter (Pairs (Map I F)) P) (trace : List (Answered (B × B) I.Error))
         (t : Filter (Pairs (Map I F)) P)
         → Run ⟦<Filter<Pairs<Map<I, F>>, P> as FallibleIterator>⟧.contract.steps s trace t
-        ↔ (pairs : List (Answered (B × B) I.Error))
-        × Run (λ u r v. Gathers ⟦<Map<I, F> as FallibleIterator>⟧.contract.steps
-        MakesPair u.it r v.it) (filter_source s) pairs (filter_source t)
-        × FilterTrace first_of P.FnMut (pairs, filter_predicate s) trace
-        ([], filter_predicate t) }
+        ↔ FilterTrace (λ a pairs b. Run (λ u r v. Gathers
+        ⟦<Map<I, F> as FallibleIterator>⟧.contract.steps MakesPair u.it r v.it) a pairs b)
+        P.FnMut (filter_parts s) trace (filter_parts t) }
 {
     law_headline::<Filter<Pairs<Map<I, F>>, P>>();
 }
