@@ -33,5 +33,6 @@ module _ {F A E : Type 0} (g : Mut F (Unit {0}) (Answered A E)) where
       lenders = refl;
     };
     bounded = λ f. ((λ e. e), (λ p. p));
-    hold = own_hold; traced = λ _ _ _. ((λ h. h), (λ h. h));
+    hold = own_hold;
+    traced = λ _ _ _. ((λ h. h), (λ h. h));
   }

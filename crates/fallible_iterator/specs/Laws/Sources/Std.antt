@@ -102,7 +102,8 @@ module _ {S A E Z : Type 0} (of_item : A → Z) (of_failure : E → Z) (can : S 
       lenders = refl;
     };
     bounded = λ s. ((λ f. (size (remaining s), (f, omega arith))), (λ p. p.1.0));
-    hold = std_hold of_item of_failure can gives remaining; traced = runs_are_std_traces of_item of_failure can gives remaining;
+    hold = std_hold of_item of_failure can gives remaining;
+    traced = runs_are_std_traces of_item of_failure can gives remaining;
   }
 
 -- ---- from the front

@@ -7,11 +7,11 @@ ghost use Rattle.fallible_core.specs.Filtering.Filter.{filter_source};
 ghost use Rattle.fallible_core.specs.OneToOne.Map.{map_source};
 ghost use Rattle.fallible_iterator.specs.SoundHints.{Brackets, SoundAbove, SoundHints};
 
+use crate::sources::Convert;
 use fallible_core::cutting::Take;
 use fallible_core::filtering::Filter;
 use fallible_core::headline::law_hints;
 use fallible_core::one_to_one::Map;
-use crate::sources::Convert;
 use fallible_core::traits::FallibleIterator;
 
 /// A hint that brackets what comes, less the items of a run, brackets what comes after that run.
