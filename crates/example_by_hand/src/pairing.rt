@@ -1,11 +1,16 @@
 //! An adapter of one's own that draws two items for one.
 ghost use Rattle.std.specs.Prelude.{◌≡◌, ◌↔◌, ℕ, ◌+◌, ◌-◌, ◌%◌, ◌^◌, ◌<◌, List, [], Option, Result, Bool, Ok};
 ghost use Rattle.std.specs.Borrow.{Bor};
-ghost use Rattle.fallible_iterator.specs.Contract.{AtMost};
+ghost use Rattle.std.proofs.Common.{refl};
+ghost use Rattle.fallible_iterator.specs.Closures.{call_by_value};
+ghost use Rattle.fallible_iterator.specs.Contract.{AtMost, parts_as};
 ghost use Rattle.fallible_iterator.specs.Filtering.Filter.{FilterTrace, filter_predicate, filter_source};
+ghost use Rattle.fallible_iterator.specs.Laws.Contract.{lawful_parts};
 ghost use Rattle.fallible_iterator.specs.Laws.Own.{lawful_gathering};
 ghost use Rattle.fallible_iterator.specs.Lists.{Lists, counted, folded, mapped};
-ghost use Rattle.fallible_iterator.specs.Own.{Gathers, gathering};
+ghost use Rattle.fallible_iterator.specs.OneToOne.Map.{map_outcome, map_parts};
+ghost use Rattle.fallible_iterator.specs.Own.{GathersAll, gathering};
+ghost use Rattle.fallible_iterator.specs.Passing.{passes_all};
 ghost use Rattle.fallible_iterator.specs.Traces.{Answered, Run, first_of};
 ghost use Rattle.example_by_hand.specs.Pairs.{MakesPair, paired};
 
@@ -27,7 +32,7 @@ where
 
     type Error = I::Error;
 
-    ghost contract = { gathering (λ s. s.it) MakesPair I.contract };
+    ghost contract = { parts_as (λ s. s.it) (gathering MakesPair I.contract) };
 
     /// Draws once, and again after an item.
     fn next(&mut self) -> Result<Option<(I::Item, I::Item)>, I::Error> {
@@ -44,7 +49,7 @@ where
         (0, None)
     }
 
-    ghost lawful = { lawful_gathering (λ s. s.it) MakesPair I.lawful };
+    ghost lawful = { lawful_parts (record { make = λ p. record { it = p }; made = λ s. refl; has = λ p. refl }) (lawful_gathering MakesPair I.lawful) };
 }
 
 impl<I: FallibleIterator> Pairs<I>
@@ -91,7 +96,7 @@ where
         )
 }
 
-/// The headline of `Pairs::new(source.map(f)).filter(p)`, a nest with a type of one's own in the middle, over every source. Read from the outside: what it returns is what `filter` makes of `pairs`, and each of these is what `MakesPair` makes of one draw of the `Map` or of two.
+/// The headline of `Pairs::new(source.map(f)).filter(p)`, a nest with a type of one's own in the middle, over every source. Read from the outside: what it returns is what `filter` makes of `pairs`, each of these is what `MakesPair` makes of a group of answers of the `Map`, and all groups, one after another, are what `map` makes of what the source returns.
 pub fn law_nest_around_pairs<
     I: FallibleIterator,
     B: Drop,
@@ -103,8 +108,9 @@ where
         (t : Filter (Pairs (Map I F)) P)
         → Run ⟦<Filter<Pairs<Map<I, F>>, P> as FallibleIterator>⟧.contract.steps s trace t
         ↔ (pairs : List (Answered (B × B) I.Error))
-        × Run (λ u r v. Gathers ⟦<Map<I, F> as FallibleIterator>⟧.contract.steps
-        MakesPair u.it r v.it) (filter_source s) pairs (filter_source t)
+        × GathersAll (λ u drawn v. passes_all I.contract.traces (call_by_value F.FnMut)
+        map_outcome (map_parts u) drawn (map_parts v)) MakesPair
+        (filter_source s).it pairs (filter_source t).it
         × FilterTrace first_of P.FnMut (pairs, filter_predicate s) trace
         ([], filter_predicate t) }
 {
