@@ -25,13 +25,13 @@ LowersAtAnswer (Ok (Some x)) before after = after < before
 LowersAtAnswer (Ok None) before after = after ≤ before
 LowersAtAnswer (Err e) before after = after < before
 
--- As m, and at most so many items are left as the number says, which each item lowers.
+-- As m, and at most so many items are left as the number says, which each item lowers. Its definition is that of m, where draws lower the number so.
 abbrev pub bounded_by : {S A E : Type 0} → (S → ℕ) → Contract S A E → Contract S A E
-bounded_by left m = record m { steps = λ s r t. m.steps s r t × LowersAtItem r (left s) (left t); bound = λ s n. left s ≤ n; is_finite = λ _. ⊤; traces = λ s trace t. Run (λ u r v. m.steps u r v × LowersAtItem r (left u) (left v)) s trace t; sound = own_sound (λ s r t. m.steps s r t × LowersAtItem r (left s) (left t)) }
+bounded_by left m = record m { steps = λ s r t. m.steps s r t × LowersAtItem r (left s) (left t); bound = λ s n. left s ≤ n; is_finite = λ _. ⊤; traces = λ s trace t. m.traces s trace t × Run (λ u r v. m.steps u r v × LowersAtItem r (left u) (left v)) s trace t; sound = own_sound (λ s r t. m.steps s r t × LowersAtItem r (left s) (left t)) }
 
 -- As `bounded_by`, where the number counts failures too: each failure lowers it as well.
 abbrev pub bounded_with_failures : {S A E : Type 0} → (S → ℕ) → Contract S A E → Contract S A E
-bounded_with_failures left m = record m { steps = λ s r t. m.steps s r t × LowersAtAnswer r (left s) (left t); bound = λ s n. left s ≤ n; is_finite = λ _. ⊤; remaining = λ s. at_most (left s); traces = λ s trace t. Run (λ u r v. m.steps u r v × LowersAtAnswer r (left u) (left v)) s trace t; sound = own_sound (λ s r t. m.steps s r t × LowersAtAnswer r (left s) (left t)) }
+bounded_with_failures left m = record m { steps = λ s r t. m.steps s r t × LowersAtAnswer r (left s) (left t); bound = λ s n. left s ≤ n; is_finite = λ _. ⊤; remaining = λ s. at_most (left s); traces = λ s trace t. m.traces s trace t × Run (λ u r v. m.steps u r v × LowersAtAnswer r (left u) (left v)) s trace t; sound = own_sound (λ s r t. m.steps s r t × LowersAtAnswer r (left s) (left t)) }
 
 -- ---- a source that says which items come
 

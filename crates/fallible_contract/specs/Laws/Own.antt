@@ -22,12 +22,16 @@ module _ {S A E : Type 0} (steps more : S → Answered A E → S → Type 0) whe
   always_gives_narrowed s [] i = λ r t w. i r t w.0
   always_gives_narrowed s (y ∷ l) i = λ r t w. let h = i r t w.0 in (h.0, always_gives_narrowed t l h.1)
 
+  run_of_narrowed : (trace : List (Answered A E)) (s t : S) → Run (λ u r v. steps u r v × more u r v) s trace t → Run steps s trace t
+  run_of_narrowed [] s t ran = ran
+  run_of_narrowed (r ∷ rest) s t ran = (ran.0, ran.1.0, run_of_narrowed rest ran.0 t ran.2)
+
 -- ---- a source that knows how many are left
 
 module _ {S A E : Type 0} (m : Contract S A E) (left : S → ℕ) (lowers : Answered A E → ℕ → ℕ → Type 0) (remains : S → Count) where
   -- `bounded_by` and `bounded_with_failures`
   abbrev BoundedHere : Contract S A E
-  BoundedHere = record m { steps = λ s r t. m.steps s r t × lowers r (left s) (left t); bound = λ s n. left s ≤ n; is_finite = λ _. ⊤; remaining = remains; traces = λ s trace t. Run (λ u r v. m.steps u r v × lowers r (left u) (left v)) s trace t; sound = own_sound (λ s r t. m.steps s r t × lowers r (left s) (left t)) }
+  BoundedHere = record m { steps = λ s r t. m.steps s r t × lowers r (left s) (left t); bound = λ s n. left s ≤ n; is_finite = λ _. ⊤; remaining = remains; traces = λ s trace t. m.traces s trace t × Run (λ u r v. m.steps u r v × lowers r (left u) (left v)) s trace t; sound = own_sound (λ s r t. m.steps s r t × lowers r (left s) (left t)) }
 
   kept_by_draw_bounded : (s t : S) (r : Answered A E) → KeptByDraw m s r t → OnAnswer BoundedHere s r t → KeptByDraw BoundedHere s r t
   kept_by_draw_bounded s t r g answer = record {
@@ -43,7 +47,7 @@ module _ {S A E : Type 0} (m : Contract S A E) (left : S → ℕ) (lowers : Answ
   lawful_bounded answers l = record {
     kept_by_draw = λ s r t c step. let g = l.kept_by_draw s r t c step.0 in kept_by_draw_bounded s t r g (answers s t r step.1 g.answer);
     bounded = λ s. ((λ f. (left s, omega arith)), (λ n. tt));
-    traced = λ _ _ _. ((λ h. h), (λ h. h));
+    traced = λ s trace t. ((λ ran. ((l.traced s trace t).0 (run_of_narrowed m.steps (λ u r v. lowers r (left u) (left v)) trace s t ran), ran)), (λ d. d.1));
     hold = own_hold;
   }
 
