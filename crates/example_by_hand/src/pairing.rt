@@ -1,11 +1,14 @@
 //! An adapter of one's own that draws two items for one.
 ghost use Rattle.std.specs.Prelude.{◌≡◌, ◌↔◌, ℕ, ◌+◌, ◌-◌, ◌%◌, ◌^◌, ◌<◌, List, Option, Result, Bool, Ok};
 ghost use Rattle.std.specs.Borrow.{Bor};
-ghost use Rattle.fallible_iterator.specs.Contract.{AtMost};
+ghost use Rattle.std.proofs.Common.{refl};
+ghost use Rattle.fallible_iterator.specs.Contract.{AtMost, parts_as};
 ghost use Rattle.fallible_iterator.specs.Filtering.Filter.{FilterTrace, filter_parts};
+ghost use Rattle.fallible_iterator.specs.Laws.Contract.{lawful_parts};
 ghost use Rattle.fallible_iterator.specs.Laws.Own.{lawful_gathering};
 ghost use Rattle.fallible_iterator.specs.Lists.{Lists, counted, folded, mapped};
-ghost use Rattle.fallible_iterator.specs.Own.{Gathers, gathering};
+ghost use Rattle.fallible_iterator.specs.OneToOne.Map.{MapTrace, map_parts};
+ghost use Rattle.fallible_iterator.specs.Own.{GathersAll, gathering};
 ghost use Rattle.fallible_iterator.specs.Traces.{Answered, Run};
 ghost use Rattle.example_by_hand.specs.Pairs.{MakesPair, paired};
 
@@ -27,7 +30,7 @@ where
 
     type Error = I::Error;
 
-    ghost contract = { gathering (λ s. s.it) MakesPair I.contract };
+    ghost contract = { parts_as (λ s. s.it) (gathering MakesPair I.contract) };
 
     /// Draws once, and again after an item.
     fn next(&mut self) -> Result<Option<(I::Item, I::Item)>, I::Error> {
@@ -44,7 +47,7 @@ where
         (0, None)
     }
 
-    ghost lawful = { lawful_gathering (λ s. s.it) MakesPair I.lawful };
+    ghost lawful = { lawful_parts (record { make = λ p. record { it = p }; made = λ s. refl; has = λ p. refl }) (lawful_gathering MakesPair I.lawful) };
 }
 
 impl<I: FallibleIterator> Pairs<I>
@@ -91,7 +94,7 @@ where
         )
 }
 
-/// The headline of `Pairs::new(source.map(f)).filter(p)`, a nest with a type of one's own in the middle, over every source. Read from the outside: what it returns is what `filter` makes of `pairs`, and each of these is what `MakesPair` makes of one draw of the `Map` or of two.
+/// The headline of `Pairs::new(source.map(f)).filter(p)`, a nest with a type of one's own in the middle, over every source. Read from the outside: what it returns is what `filter` makes of `pairs`, each of these is what `MakesPair` makes of a group of answers of the `Map`, and all groups, one after another, are what `map` makes of what the source returns.
 pub fn law_nest_around_pairs<
     I: FallibleIterator,
     B: Drop,
@@ -102,8 +105,8 @@ where
     ensures { (s : Filter (Pairs (Map I F)) P) (trace : List (Answered (B × B) I.Error))
         (t : Filter (Pairs (Map I F)) P)
         → Run ⟦<Filter<Pairs<Map<I, F>>, P> as FallibleIterator>⟧.contract.steps s trace t
-        ↔ FilterTrace (λ a pairs b. Run (λ u r v. Gathers
-        ⟦<Map<I, F> as FallibleIterator>⟧.contract.steps MakesPair u.it r v.it) a pairs b)
+        ↔ FilterTrace (λ a pairs b. GathersAll (λ u drawn v. MapTrace I.contract.traces F.FnMut
+        (map_parts u) drawn (map_parts v)) MakesPair a.it pairs b.it)
         P.FnMut (filter_parts s) trace (filter_parts t) }
 {
     law_headline::<Filter<Pairs<Map<I, F>>, P>>();

@@ -1,6 +1,9 @@
 //! An adapter of one's own that draws its source again after a failure.
 ghost use Rattle.std.specs.Prelude.{◌≡◌, List, Result};
+ghost use Rattle.std.proofs.Common.{refl};
+ghost use Rattle.fallible_iterator.specs.Contract.{parts_as};
 ghost use Rattle.fallible_iterator.specs.Gathering.{gathering_by};
+ghost use Rattle.fallible_iterator.specs.Laws.Contract.{lawful_parts};
 ghost use Rattle.fallible_iterator.specs.Laws.Gathering.{lawful_gathering_by};
 ghost use Rattle.fallible_iterator.specs.Lists.{Lists};
 ghost use Rattle.example_by_hand.specs.Retried.{MakesRetried, retried};
@@ -22,7 +25,7 @@ where
 
     type Error = I::Error;
 
-    ghost contract = { gathering_by (λ s. s.it) (λ s. s.retries) MakesRetried I.contract };
+    ghost contract = { parts_as (λ s. (s.it, s.retries)) (gathering_by MakesRetried I.contract) };
 
     /// Draws up to an item, an `Ok(None)` or the last failure that may come.
     fn next(&mut self) -> Result<Option<I::Item>, I::Error> {
@@ -40,7 +43,7 @@ where
         (0, None)
     }
 
-    ghost lawful = { lawful_gathering_by (λ s. s.it) (λ s. s.retries) MakesRetried I.lawful };
+    ghost lawful = { lawful_parts (record { make = λ p. record { it = p.0; retries = p.1 }; made = λ s. refl; has = λ p. refl }) (lawful_gathering_by MakesRetried I.lawful) };
 }
 
 impl<I: FallibleIterator> Retried<I>

@@ -1,5 +1,5 @@
 -- What the contract of a fallible iterator says of its values.
-use Rattle.std.specs.Prelude.{◌≡◌, ℕ, ◌≤◌, ◌<◌, Option, Some, None, Ok, Err, ◌↔◌, ⊤, ◌⊎◌, List}
+use Rattle.std.specs.Prelude.{◌≡◌, ℕ, ◌≤◌, ◌<◌, Option, Some, None, Ok, Err, ◌↔◌, ⊤, ◌⊎◌, List, []}
 use Rattle.std.specs.Borrow.{GName}
 use Rattle.std.specs.Iterator.{Count, IsFinite, size, endless}
 use Rattle.fallible_contract.specs.Traces.{Answered, Run, items_in}
@@ -129,6 +129,19 @@ pub record Inverse {S P : Type 0} (view : S → P) : Type 0 where
 -- the contract of a struct by its parts: its definition is that of the parts
 abbrev pub parts_as : {S P A E : Type 0} → (S → P) → Contract P A E → Contract S A E
 parts_as parts m = record (seen_as parts m) { traces = λ s trace t. m.traces (parts s) trace (parts t) }
+
+-- No draw leaves s itself, and any draws from s what the definition says of what is viewed.
+abbrev pub traces_around : {S P A E : Type 0} → (S → P) → (P → List (Answered A E) → P → Type 0) → S → List (Answered A E) → S → Type 0
+traces_around view traces s trace t = (trace ≡ [] → s ≡ t) × traces (view s) trace (view t)
+
+-- In each value, any value of P can stand where the view is.
+pub record Replaceable {S P : Type 0} (view : S → P) : Type 0 where
+  pub put : S → P → S
+  pub has : (s : S) (p : P) → view (put s p) ≡ p
+
+-- the contract of a struct around a value, whatever becomes of its other parts: its definition is that of the value
+abbrev pub around : {S P A E : Type 0} → (S → P) → Contract P A E → Contract S A E
+around view m = record (seen_as view m) { traces = traces_around view m.traces }
 
 -- The contract of a type that says how it steps and how many items are left at most, and nothing else.
 abbrev pub counted_contract : {S A E : Type 0} → (S → Answered A E → S → Type 0) → (S → ℕ) → Contract S A E

@@ -2,7 +2,7 @@
 use Rattle.std.specs.Prelude.{⊤, List}
 use Rattle.fallible_contract.specs.Traces.{Answered, Run}
 use Rattle.fallible_contract.specs.Sound.{SoundWhere, own_sound, as_source}
-use Rattle.fallible_contract.specs.Contract.{Contract, Lawful}
+use Rattle.fallible_contract.specs.Contract.{Contract, Lawful, traces_around}
 
 -- What the contract of a type with two ends says besides. A bound, hints and names are those of the first end, and hold whichever end is drawn from.
 pub record Ends (S A E : Type 0) : Type 1 where
@@ -46,6 +46,10 @@ ends_seen_as view e = record {
 -- the second end of a struct by its parts
 abbrev pub ends_parts_as : {S P A E : Type 0} → (S → P) → Ends P A E → Ends S A E
 ends_parts_as parts e = record (ends_seen_as parts e) { traces = λ s trace t. e.traces (parts s) trace (parts t) }
+
+-- the second end of a struct around a value
+abbrev pub ends_around : {S P A E : Type 0} → (S → P) → Ends P A E → Ends S A E
+ends_around view e = record (ends_seen_as view e) { traces = traces_around view e.traces }
 
 -- What each type with two ends proves: what may be drawn from both ends may be drawn from the front, what may come from the front may come from either end, and draws from either end keep the contract.
 pub record LawfulEnds {S A E : Type 0} (m : Contract S A E) (e : Ends S A E) : Type 0 where

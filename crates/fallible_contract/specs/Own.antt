@@ -1,5 +1,6 @@
 -- Contracts of types of one's own.
-use Rattle.std.specs.Prelude.{◌≡◌, ℕ, ◌+◌, ◌<◌, ◌≤◌, Some, None, Ok, Err, ⊤, List, [], ◌∷◌}
+use Rattle.std.specs.Prelude.{◌≡◌, ℕ, ◌+◌, ◌<◌, ◌≤◌, Some, None, Ok, Err, ⊤, List, [], ◌∷◌, ◌++◌}
+use Rattle.std.specs.List.{AllZip}
 use Rattle.std.specs.Iterator.{at_most, endless}
 use Rattle.fallible_contract.specs.Traces.{Answered, Run, item, failure, items_in}
 use Rattle.fallible_contract.specs.Sound.{own_sound}
@@ -24,19 +25,24 @@ LowersAtAnswer (Ok (Some x)) before after = after < before
 LowersAtAnswer (Ok None) before after = after ≤ before
 LowersAtAnswer (Err e) before after = after < before
 
--- As m, and at most so many items are left as the number says, which each item lowers.
+-- As m, and at most so many items are left as the number says, which each item lowers. Its definition is that of m, where draws lower the number so.
 abbrev pub bounded_by : {S A E : Type 0} → (S → ℕ) → Contract S A E → Contract S A E
-bounded_by left m = record m { steps = λ s r t. m.steps s r t × LowersAtItem r (left s) (left t); bound = λ s n. left s ≤ n; is_finite = λ _. ⊤; traces = λ s trace t. Run (λ u r v. m.steps u r v × LowersAtItem r (left u) (left v)) s trace t; sound = own_sound (λ s r t. m.steps s r t × LowersAtItem r (left s) (left t)) }
+bounded_by left m = record m { steps = λ s r t. m.steps s r t × LowersAtItem r (left s) (left t); bound = λ s n. left s ≤ n; is_finite = λ _. ⊤; traces = λ s trace t. m.traces s trace t × Run (λ u r v. m.steps u r v × LowersAtItem r (left u) (left v)) s trace t; sound = own_sound (λ s r t. m.steps s r t × LowersAtItem r (left s) (left t)) }
 
 -- As `bounded_by`, where the number counts failures too: each failure lowers it as well.
 abbrev pub bounded_with_failures : {S A E : Type 0} → (S → ℕ) → Contract S A E → Contract S A E
-bounded_with_failures left m = record m { steps = λ s r t. m.steps s r t × LowersAtAnswer r (left s) (left t); bound = λ s n. left s ≤ n; is_finite = λ _. ⊤; remaining = λ s. at_most (left s); traces = λ s trace t. Run (λ u r v. m.steps u r v × LowersAtAnswer r (left u) (left v)) s trace t; sound = own_sound (λ s r t. m.steps s r t × LowersAtAnswer r (left s) (left t)) }
+bounded_with_failures left m = record m { steps = λ s r t. m.steps s r t × LowersAtAnswer r (left s) (left t); bound = λ s n. left s ≤ n; is_finite = λ _. ⊤; remaining = λ s. at_most (left s); traces = λ s trace t. m.traces s trace t × Run (λ u r v. m.steps u r v × LowersAtAnswer r (left u) (left v)) s trace t; sound = own_sound (λ s r t. m.steps s r t × LowersAtAnswer r (left s) (left t)) }
 
 -- ---- a source that says which items come
 
+-- P holds of each item of a trace
+abbrev pub EachItem : {A E : Type 0} → (A → Type 0) → List (Answered A E) → Type 0
+EachItem P [] = ⊤
+EachItem P (r ∷ rest) = IfItem P r × EachItem P rest
+
 -- As m, and P holds of each item.
 abbrev pub giving : {S A E : Type 0} → (A → Type 0) → Contract S A E → Contract S A E
-giving P m = record m { steps = λ s r t. m.steps s r t × IfItem P r; may_give = λ s x. m.may_give s x × P x; traces = λ s trace t. Run (λ u r v. m.steps u r v × IfItem P r) s trace t; sound = own_sound (λ s r t. m.steps s r t × IfItem P r) }
+giving P m = record m { steps = λ s r t. m.steps s r t × IfItem P r; may_give = λ s x. m.may_give s x × P x; traces = λ s trace t. m.traces s trace t × EachItem P trace; sound = own_sound (λ s r t. m.steps s r t × IfItem P r) }
 
 -- ---- a type of whose answers nothing is said
 
@@ -105,18 +111,29 @@ module _ {P A E : Type 0} (m : Contract P A E) (s : P) where
     pub coming : AllCome taken
     pub answers : made taken r
 
+-- the lists of a list, one after another
+abbrev pub ungrouped : {X : Type 0} → List (List X) → List X
+ungrouped [] = []
+ungrouped (g ∷ groups) = g ++ ungrouped groups
+
+-- The answers of an adapter, each made of a group of draws: the groups, one after another, are a trace of the source.
+pub record GathersAll {P A E B F : Type 0} (traces : P → List (Answered A E) → P → Type 0) (made : List (Answered A E) → Answered B F → Type 0) (s : P) (trace : List (Answered B F)) (t : P) : Type 0 where
+  pub groups : List (List (Answered A E))
+  pub drawn : traces s (ungrouped groups) t
+  pub answers : AllZip (λ taken r. TakesEnough r taken × made taken r) groups trace
+
 -- The contract of an adapter over m that makes each answer of several draws: at most as many items come as of its source, made of what its source yields.
-abbrev pub gathering : {S P A E B F : Type 0} → (S → P) → (List (Answered A E) → Answered B F → Type 0) → Contract P A E → Contract S B F
-gathering view made m = record {
-  can_next = λ s. m.can_next (view s);
-  steps = λ s r t. Gathers m.steps made (view s) r (view t);
-  bound = λ s n. m.bound (view s) n;
-  is_finite = λ s. m.is_finite (view s);
-  remaining = λ s. m.remaining (view s);
-  may_give = λ s y. MadeOfComing m (view s) made (item y);
-  may_fail = λ s f. MadeOfComing m (view s) made (failure f);
+abbrev pub gathering : {P A E B F : Type 0} → (List (Answered A E) → Answered B F → Type 0) → Contract P A E → Contract P B F
+gathering made m = record {
+  can_next = m.can_next;
+  steps = Gathers m.steps made;
+  bound = m.bound;
+  is_finite = m.is_finite;
+  remaining = m.remaining;
+  may_give = λ s y. MadeOfComing m s made (item y);
+  may_fail = λ s f. MadeOfComing m s made (failure f);
   hints = λ _ h. h ≡ (0, None);
-  lenders = λ s. m.lenders (view s);
-  traces = λ s trace t. Run (λ u r v. Gathers m.steps made (view u) r (view v)) s trace t;
-  sound = own_sound (λ s r t. Gathers m.steps made (view s) r (view t));
+  lenders = m.lenders;
+  traces = GathersAll m.traces made;
+  sound = own_sound (Gathers m.steps made);
 }

@@ -2,10 +2,10 @@
 use Rattle.std.specs.Prelude.{◌↔◌, List, [], ◌∷◌, Some, None, Ok, Err}
 use Rattle.std.proofs.Common.{arith, subst, refl, ◌∙◌}
 use Rattle.fallible_contract.specs.Traces.{Answered, Run}
-use Rattle.fallible_contract.specs.Contract.{Contract, NoMore, NoMoreRemains, OnAnswer, KeptByDraw, KeptByDraws, NeverFails, Stays, Lawful, Inverse, seen_as, parts_as}
+use Rattle.fallible_contract.specs.Contract.{Contract, NoMore, NoMoreRemains, OnAnswer, KeptByDraw, KeptByDraws, NeverFails, Stays, Lawful, Inverse, Replaceable, seen_as, parts_as, around}
 use Rattle.fallible_contract.specs.Sound.{SoundWhere, HintsHold}
 use Rattle.fallible_contract.specs.Laws.Sound.{hold_seen}
-use Rattle.fallible_contract.specs.Laws.LawForm.{IsTraced, traces_are_of_parts}
+use Rattle.fallible_contract.specs.Laws.LawForm.{IsTraced, traces_are_of_parts, traces_are_around}
 
 module _ {S A E : Type 0} (m : Contract S A E) where
   -- after any answer nothing more is to come than before
@@ -144,6 +144,9 @@ lawful_seen {m = m} view l = lawful_view m view _ (λ _ _ _. ((λ h. h), (λ h. 
 
 pub lawful_parts : {S P A E : Type 0} {m : Contract P A E} {parts : S → P} → Inverse parts → Lawful m → Lawful (parts_as parts m)
 lawful_parts {m = m} {parts = parts} inverse l = lawful_view m parts _ (traces_are_of_parts parts inverse.make inverse.made inverse.has m.steps m.traces l.traced) l
+
+pub lawful_around : {S P A E : Type 0} {m : Contract P A E} {view : S → P} → Replaceable view → Lawful m → Lawful (around view m)
+lawful_around {m = m} {view = view} other l = lawful_view m view _ (traces_are_around view other.put other.has m.steps m.traces l.traced) l
 
 module _ {S A E : Type 0} {m : Contract S A E} where
   on_answer_after : (s t u : S) (r : Answered A E) → KeptByDraws m s t → OnAnswer m t r u → OnAnswer m s r u

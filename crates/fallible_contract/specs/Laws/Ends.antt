@@ -1,11 +1,11 @@
 -- The laws of the second end.
 use Rattle.std.specs.Prelude.{ℕ, Option}
 use Rattle.std.proofs.Common.{inl, inr}
-use Rattle.fallible_contract.specs.Contract.{Inverse, Contract, Lawful, seen_as, parts_as}
-use Rattle.fallible_contract.specs.Ends.{Ends, from_front, from_back, ends_of, ends_seen_as, ends_parts_as, LawfulEnds}
+use Rattle.fallible_contract.specs.Contract.{Inverse, Replaceable, Contract, Lawful, seen_as, parts_as, around}
+use Rattle.fallible_contract.specs.Ends.{Ends, from_front, from_back, ends_of, ends_seen_as, ends_parts_as, ends_around, LawfulEnds}
 use Rattle.fallible_contract.specs.Passing.{passing_contract, leaving_out_contract}
 use Rattle.fallible_contract.specs.Sound.{SoundWhere, HintsHold}
-use Rattle.fallible_contract.specs.Laws.Contract.{lawful_seen, lawful_parts, lawful_with_sound}
+use Rattle.fallible_contract.specs.Laws.Contract.{lawful_seen, lawful_parts, lawful_around, lawful_with_sound}
 use Rattle.fallible_contract.specs.Laws.Closures.{reaches_reflexive, may_answer_where_reached_may_answer}
 use Rattle.fallible_contract.specs.Laws.Passing.{StaysCallable, lawful_passing, lawful_leaving_out}
 use Rattle.fallible_contract.specs.declared.passing.Outcome.{Outcome}
@@ -28,6 +28,16 @@ lawful_ends_parts {parts = parts} inverse l = record {
   may_fail = λ s x h. l.may_fail (parts s) x h;
   front = lawful_parts inverse l.front;
   back = lawful_parts inverse l.back;
+}
+
+-- a struct around a value
+pub lawful_ends_around : {S P A E : Type 0} {m : Contract P A E} {e : Ends P A E} {view : S → P} → Replaceable view → LawfulEnds m e → LawfulEnds (around view m) (ends_around view e)
+lawful_ends_around {view = view} other l = record {
+  front_can = λ s c. l.front_can (view s) c;
+  may_give = λ s x h. l.may_give (view s) x h;
+  may_fail = λ s x h. l.may_fail (view s) x h;
+  front = lawful_around other l.front;
+  back = lawful_around other l.back;
 }
 
 -- a type that steps from the back as it does from the front

@@ -57,6 +57,25 @@ module _ {V P A E : Type 0} (parts : V → P) (make : P → V) (made : (s : V) �
   pub traces_are_of_parts : (D : P → List (Answered A E) → P → Type 0) → ((p : P) (trace : List (Answered A E)) (q : P) → Run steps p trace q ↔ D p trace q) → TracesAre parts (λ u r v. steps (parts u) r (parts v)) D
   traces_are_of_parts D law s trace t = ((λ ran. (law (parts s) trace (parts t)).0 (run_over_parts trace s t ran)), (λ d. run_from_parts trace s t ((law (parts s) trace (parts t)).1 d)))
 
+-- Runs of a type around a value, in whose place any other can stand, are runs of that value.
+module _ {V P A E : Type 0} (view : V → P) (put : V → P → V) (has : (s : V) (p : P) → view (put s p) ≡ p) (steps : P → Answered A E → P → Type 0) where
+  run_of_viewed : (trace : List (Answered A E)) (s t : V) → Run (λ u r v. steps (view u) r (view v)) s trace t → Run steps (view s) trace (view t)
+  run_of_viewed [] s t e = ap view e
+  run_of_viewed (r ∷ rest) s t h = (view h.0, h.1, run_of_viewed rest h.0 t h.2)
+
+  run_around : (trace : List (Answered A E)) (s t : V) → (trace ≡ [] → s ≡ t) → Run steps (view s) trace (view t) → Run (λ u r v. steps (view u) r (view v)) s trace t
+  run_around [] s t none ran = none refl
+  run_around (r ∷ []) s t none ran = (t, subst (λ (p : P). steps (view s) r p) ran.2 ran.1, refl)
+  run_around (r ∷ q ∷ rest) s t none ran = let e = has s ran.0 in (put s ran.0, subst (λ (p : P). steps (view s) r p) (sym e) ran.1, run_around (q ∷ rest) (put s ran.0) t (λ no. absurd (let h = no in cc)) (subst (λ (p : P). Run steps p (q ∷ rest) (view t)) (sym e) ran.2))
+
+  none_leaves_itself : (trace : List (Answered A E)) (s t : V) → Run (λ u r v. steps (view u) r (view v)) s trace t → trace ≡ [] → s ≡ t
+  none_leaves_itself [] s t ran none = ran
+  none_leaves_itself (r ∷ rest) s t ran none = absurd (let h = none in cc)
+
+  -- so a law of the runs of the value is one of the type
+  pub traces_are_around : (D : P → List (Answered A E) → P → Type 0) → ((p : P) (trace : List (Answered A E)) (q : P) → Run steps p trace q ↔ D p trace q) → (s : V) (trace : List (Answered A E)) (t : V) → Run (λ u r v. steps (view u) r (view v)) s trace t ↔ ((trace ≡ [] → s ≡ t) × D (view s) trace (view t))
+  traces_are_around D law s trace t = ((λ ran. (none_leaves_itself trace s t ran, (law (view s) trace (view t)).0 (run_of_viewed trace s t ran))), (λ d. run_around trace s t d.0 ((law (view s) trace (view t)).1 d.1)))
+
 -- ---- what a contract's `traced` says
 
 -- the runs are the definition

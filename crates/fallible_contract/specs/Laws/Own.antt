@@ -1,14 +1,17 @@
 -- The contracts of types of one's own are lawful.
-use Rattle.std.specs.Prelude.{ℕ, ◌+◌, ◌≤◌, Some, None, Ok, Err, ⊤, Result, List, [], ◌∷◌}
+use Rattle.std.specs.Prelude.{ℕ, ◌+◌, ◌≤◌, Some, None, Ok, Err, ⊤, Result, List, [], ◌∷◌, ◌++◌}
+use Rattle.std.specs.List.{AllZip}
 use Rattle.std.specs.Iterator.{Count, IsFinite, size, at_most}
-use Rattle.std.proofs.Common.{arith, subst}
+use Rattle.std.proofs.Common.{arith, refl, subst}
 use Rattle.fallible_contract.specs.Traces.{Answered, Run, item, items_in}
 use Rattle.fallible_contract.specs.Sound.{own_sound}
 use Rattle.fallible_contract.specs.Laws.Sound.{own_hold}
 use Rattle.fallible_contract.specs.Contract.{Contract, Fewer, OnAnswer, KeptByDraw, KeptByDraws, Lawful, Stays}
 use Rattle.fallible_contract.specs.Lists.{AlwaysGives, Lists}
 use Rattle.fallible_contract.specs.Passing.{IfItem}
-use Rattle.fallible_contract.specs.Own.{LowersAtItem, LowersAtAnswer, bounded_by, bounded_with_failures, giving, items_and_failures_in, Gathers, MayCome, AllCome, MadeOfComing, gathering, drawing, DrawsOn, drawing_from}
+use Rattle.fallible_contract.specs.Own.{LowersAtItem, LowersAtAnswer, bounded_by, bounded_with_failures, EachItem, giving, items_and_failures_in, TakesEnough, Gathers, MayCome, AllCome, MadeOfComing, ungrouped, GathersAll, gathering, drawing, DrawsOn, drawing_from}
+use Rattle.fallible_contract.specs.Laws.Closures.{folds_to_in_turn}
+use Rattle.fallible_contract.specs.Laws.LawForm.{IsTraced}
 use Rattle.fallible_contract.specs.Laws.Contract.{kept_by_draws_of_one_draw, kept_by_draws_of_stays, kept_by_draws_run, kept_by_draws_transitive}
 use Rattle.fallible_contract.specs.Laws.BoundsRuns.{lawful_unbounded}
 
@@ -19,12 +22,16 @@ module _ {S A E : Type 0} (steps more : S → Answered A E → S → Type 0) whe
   always_gives_narrowed s [] i = λ r t w. i r t w.0
   always_gives_narrowed s (y ∷ l) i = λ r t w. let h = i r t w.0 in (h.0, always_gives_narrowed t l h.1)
 
+  run_of_narrowed : (trace : List (Answered A E)) (s t : S) → Run (λ u r v. steps u r v × more u r v) s trace t → Run steps s trace t
+  run_of_narrowed [] s t ran = ran
+  run_of_narrowed (r ∷ rest) s t ran = (ran.0, ran.1.0, run_of_narrowed rest ran.0 t ran.2)
+
 -- ---- a source that knows how many are left
 
 module _ {S A E : Type 0} (m : Contract S A E) (left : S → ℕ) (lowers : Answered A E → ℕ → ℕ → Type 0) (remains : S → Count) where
   -- `bounded_by` and `bounded_with_failures`
   abbrev BoundedHere : Contract S A E
-  BoundedHere = record m { steps = λ s r t. m.steps s r t × lowers r (left s) (left t); bound = λ s n. left s ≤ n; is_finite = λ _. ⊤; remaining = remains; traces = λ s trace t. Run (λ u r v. m.steps u r v × lowers r (left u) (left v)) s trace t; sound = own_sound (λ s r t. m.steps s r t × lowers r (left s) (left t)) }
+  BoundedHere = record m { steps = λ s r t. m.steps s r t × lowers r (left s) (left t); bound = λ s n. left s ≤ n; is_finite = λ _. ⊤; remaining = remains; traces = λ s trace t. m.traces s trace t × Run (λ u r v. m.steps u r v × lowers r (left u) (left v)) s trace t; sound = own_sound (λ s r t. m.steps s r t × lowers r (left s) (left t)) }
 
   kept_by_draw_bounded : (s t : S) (r : Answered A E) → KeptByDraw m s r t → OnAnswer BoundedHere s r t → KeptByDraw BoundedHere s r t
   kept_by_draw_bounded s t r g answer = record {
@@ -40,7 +47,7 @@ module _ {S A E : Type 0} (m : Contract S A E) (left : S → ℕ) (lowers : Answ
   lawful_bounded answers l = record {
     kept_by_draw = λ s r t c step. let g = l.kept_by_draw s r t c step.0 in kept_by_draw_bounded s t r g (answers s t r step.1 g.answer);
     bounded = λ s. ((λ f. (left s, omega arith)), (λ n. tt));
-    traced = λ _ _ _. ((λ h. h), (λ h. h));
+    traced = λ s trace t. ((λ ran. ((l.traced s trace t).0 (run_of_narrowed m.steps (λ u r v. lowers r (left u) (left v)) trace s t ran), ran)), (λ d. d.1));
     hold = own_hold;
   }
 
@@ -86,8 +93,22 @@ module _ {S A E : Type 0} (m : Contract S A E) (P : A → Type 0) where
     lenders = g.lenders;
   }
 
+  run_of_giving : (trace : List (Answered A E)) (s t : S) → Run (giving P m).steps s trace t → Run m.steps s trace t × EachItem P trace
+  run_of_giving [] s t ran = (ran, tt)
+  run_of_giving (r ∷ rest) s t ran = let h = run_of_giving rest ran.0 t ran.2 in ((ran.0, ran.1.0, h.0), (ran.1.1, h.1))
+
+  run_giving : (trace : List (Answered A E)) (s t : S) → Run m.steps s trace t → EachItem P trace → Run (giving P m).steps s trace t
+  run_giving [] s t ran each = ran
+  run_giving (r ∷ rest) s t ran each = (ran.0, (ran.1, each.0), run_giving rest ran.0 t ran.2 each.1)
+
+  giving_traced : IsTraced m.steps m.traces → IsTraced (giving P m).steps (giving P m).traces
+  giving_traced law s trace t = (
+    (λ ran. let h = run_of_giving trace s t ran in ((law s trace t).0 h.0, h.1)),
+    (λ d. run_giving trace s t ((law s trace t).1 d.0) d.1),
+  )
+
 pub lawful_giving : {S A E : Type 0} {m : Contract S A E} (P : A → Type 0) → Lawful m → Lawful (giving P m)
-lawful_giving {m = m} P l = record { kept_by_draw = λ s r t c step. kept_by_draw_giving m P s t r step.1 (l.kept_by_draw s r t c step.0); bounded = l.bounded; traced = λ _ _ _. ((λ h. h), (λ h. h)); hold = own_hold }
+lawful_giving {m = m} P l = record { kept_by_draw = λ s r t c step. kept_by_draw_giving m P s t r step.1 (l.kept_by_draw s r t c step.0); bounded = l.bounded; traced = giving_traced m P l.traced; hold = own_hold }
 
 -- m, with what is known of its items besides, lists what m does
 pub lists_giving : {S A E : Type 0} (m : Contract S A E) {s : S} {l : List (Result A E)} (P : A → Type 0) → Lists m.steps s l → Lists (giving P m).steps s l
@@ -190,28 +211,53 @@ module _ {P A E : Type 0} (m : Contract P A E) where
 
 -- ---- an adapter that takes several items for an answer
 
-module _ {S P A E B F : Type 0} (view : S → P) (made : List (Answered A E) → Answered B F → Type 0) (m : Contract P A E) where
-  abbrev GatheringHere : Contract S B F
-  GatheringHere = gathering view made m
+module _ {P A E B F : Type 0} (steps : P → Answered A E → P → Type 0) (made : List (Answered A E) → Answered B F → Type 0) where
+  run_split : (xs ys : List (Answered A E)) (p r : P) → Run steps p (xs ++ ys) r → (q : P) × Run steps p xs q × Run steps q ys r
+  run_split [] ys p r ran = (p, refl, ran)
+  run_split (x ∷ xs) ys p r ran = let h = run_split xs ys ran.0 r ran.2 in (h.0, (ran.0, ran.1, h.1), h.2)
 
-  on_answer_gathered : Lawful m → (s t : S) (r : Answered B F) → m.can_next (view s) → Gathers m.steps made (view s) r (view t) → OnAnswer GatheringHere s r t
+  gathers_all_of_run : (trace : List (Answered B F)) (s t : P) → Run (Gathers steps made) s trace t → GathersAll (Run steps) made s trace t
+  gathers_all_of_run [] s t ran = record { groups = []; drawn = ran; answers = tt }
+  gathers_all_of_run (r ∷ rest) s t ran = let h = gathers_all_of_run rest ran.0 t ran.2 in let g = ran.1 in record {
+    groups = g.taken ∷ h.groups;
+    drawn = folds_to_in_turn steps g.taken (ungrouped h.groups) s ran.0 t g.drawn h.drawn;
+    answers = ((g.enough, g.answers), h.answers);
+  }
+
+  run_of_groups : (groups : List (List (Answered A E))) (trace : List (Answered B F)) (s t : P) → Run steps s (ungrouped groups) t → AllZip (λ taken r. TakesEnough r taken × made taken r) groups trace → Run (Gathers steps made) s trace t
+  run_of_groups [] [] s t ran each = ran
+  run_of_groups [] (r ∷ rest) s t ran each = absurd each
+  run_of_groups (g ∷ groups) [] s t ran each = absurd each
+  run_of_groups (g ∷ groups) (r ∷ rest) s t ran each = let h = run_split g (ungrouped groups) s t ran in (h.0, record { taken = g; drawn = h.1; enough = each.0.0; answers = each.0.1 }, run_of_groups groups rest h.0 t h.2 each.1)
+
+  pub gathers_all_traced : {traces : P → List (Answered A E) → P → Type 0} → IsTraced steps traces → IsTraced (Gathers steps made) (GathersAll traces made)
+  gathers_all_traced law s trace t = (
+    (λ ran. let h = gathers_all_of_run trace s t ran in record { groups = h.groups; drawn = (law s (ungrouped h.groups) t).0 h.drawn; answers = h.answers }),
+    (λ d. run_of_groups d.groups trace s t ((law s (ungrouped d.groups) t).1 d.drawn) d.answers),
+  )
+
+module _ {P A E B F : Type 0} (made : List (Answered A E) → Answered B F → Type 0) (m : Contract P A E) where
+  abbrev GatheringHere : Contract P B F
+  GatheringHere = gathering made m
+
+  on_answer_gathered : Lawful m → (s t : P) (r : Answered B F) → m.can_next s → Gathers m.steps made s r t → OnAnswer GatheringHere s r t
   on_answer_gathered l s t (Ok (Some y)) c h = (
-    record { taken = h.taken; coming = all_come_of_run m l (view s) h.taken (view t) c h.drawn; answers = h.answers },
-    (λ n b. let k = bound_lowered_by_items_of_run m l (view s) h.taken (view t) c h.drawn n b in (k.0, k.1, let enough = h.enough in omega (arith, k.2, enough))),
-    (λ f. let k = remaining_is_finite_of_run m l (view s) h.taken (view t) c h.drawn f in (k.0, let enough = h.enough in let most = items_in_at_most h.taken in omega (arith, k.1, enough, most))),
+    record { taken = h.taken; coming = all_come_of_run m l s h.taken t c h.drawn; answers = h.answers },
+    (λ n b. let k = bound_lowered_by_items_of_run m l s h.taken t c h.drawn n b in (k.0, k.1, let enough = h.enough in omega (arith, k.2, enough))),
+    (λ f. let k = remaining_is_finite_of_run m l s h.taken t c h.drawn f in (k.0, let enough = h.enough in let most = items_in_at_most h.taken in omega (arith, k.1, enough, most))),
   )
-  on_answer_gathered l s t (Ok None) c h = let k = kept_by_draws_run l (view s) h.taken (view t) c h.drawn in (k.bound, k.remaining)
+  on_answer_gathered l s t (Ok None) c h = let k = kept_by_draws_run l s h.taken t c h.drawn in (k.bound, k.remaining)
   on_answer_gathered l s t (Err e) c h = (
-    record { taken = h.taken; coming = all_come_of_run m l (view s) h.taken (view t) c h.drawn; answers = h.answers },
-    (kept_by_draws_run l (view s) h.taken (view t) c h.drawn).bound,
-    (λ f. let k = remaining_is_finite_of_run m l (view s) h.taken (view t) c h.drawn f in (k.0, let enough = h.enough in omega (arith, k.1, enough))),
+    record { taken = h.taken; coming = all_come_of_run m l s h.taken t c h.drawn; answers = h.answers },
+    (kept_by_draws_run l s h.taken t c h.drawn).bound,
+    (λ f. let k = remaining_is_finite_of_run m l s h.taken t c h.drawn f in (k.0, let enough = h.enough in omega (arith, k.1, enough))),
   )
 
-  made_of_coming_before : (s t : S) (r : Answered B F) → KeptByDraws m (view s) (view t) → MadeOfComing m (view t) made r → MadeOfComing m (view s) made r
-  made_of_coming_before s t r p h = record { taken = h.taken; coming = all_come_before m (view s) (view t) p h.taken h.coming; answers = h.answers }
+  made_of_coming_before : (s t : P) (r : Answered B F) → KeptByDraws m s t → MadeOfComing m t made r → MadeOfComing m s made r
+  made_of_coming_before s t r p h = record { taken = h.taken; coming = all_come_before m s t p h.taken h.coming; answers = h.answers }
 
-  kept_by_draw_gathered : Lawful m → (s t : S) (r : Answered B F) → m.can_next (view s) → Gathers m.steps made (view s) r (view t) → KeptByDraw GatheringHere s r t
-  kept_by_draw_gathered l s t r c h = let k = kept_by_draws_run l (view s) h.taken (view t) c h.drawn in record {
+  kept_by_draw_gathered : Lawful m → (s t : P) (r : Answered B F) → m.can_next s → Gathers m.steps made s r t → KeptByDraw GatheringHere s r t
+  kept_by_draw_gathered l s t r c h = let k = kept_by_draws_run l s h.taken t c h.drawn in record {
     can_next = k.can_next;
     is_finite = k.is_finite;
     answer = on_answer_gathered l s t r c h;
@@ -220,5 +266,5 @@ module _ {S P A E B F : Type 0} (view : S → P) (made : List (Answered A E) →
     lenders = k.lenders;
   }
 
-pub lawful_gathering : {S P A E B F : Type 0} {m : Contract P A E} (view : S → P) (made : List (Answered A E) → Answered B F → Type 0) → Lawful m → Lawful (gathering view made m)
-lawful_gathering {m = m} view made l = record { kept_by_draw = λ s r t c h. kept_by_draw_gathered view made m l s t r c h; bounded = λ s. l.bounded (view s); traced = λ _ _ _. ((λ h. h), (λ h. h)); hold = own_hold }
+pub lawful_gathering : {P A E B F : Type 0} {m : Contract P A E} (made : List (Answered A E) → Answered B F → Type 0) → Lawful m → Lawful (gathering made m)
+lawful_gathering {m = m} made l = record { kept_by_draw = λ s r t c h. kept_by_draw_gathered made m l s t r c h; bounded = l.bounded; traced = gathers_all_traced m.steps made l.traced; hold = own_hold }

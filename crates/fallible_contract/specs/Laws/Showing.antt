@@ -1,11 +1,12 @@
 -- A type whose value shows what it lists is lawful, and lists that.
-use Rattle.std.specs.Prelude.{◌≡◌, length, Result, Some, None, Ok, Err, List, [], ◌∷◌}
+use Rattle.std.specs.Prelude.{◌≡◌, ℕ, zero, suc, ◌<◌, length, drop, Result, Some, None, Ok, Err, List, [], ◌∷◌}
 use Rattle.std.proofs.Common.{refl, sym, ap, subst, ◌∙◌, arith}
-use Rattle.fallible_contract.specs.Traces.{Answered}
+use Rattle.fallible_contract.specs.Traces.{Answered, Run}
 use Rattle.fallible_contract.specs.Laws.Sound.{own_hold}
 use Rattle.fallible_contract.specs.Contract.{OnAnswer, Lawful, NeverFails}
 use Rattle.fallible_contract.specs.Lists.{AlwaysGives, Lists, items}
-use Rattle.fallible_contract.specs.Showing.{TakesShown, listing}
+use Rattle.fallible_contract.specs.Showing.{TakesShown, first_answers, TakesAllShown, listing}
+use Rattle.fallible_contract.specs.Laws.LawForm.{IsTraced}
 
 module _ {A E : Type 0} where
   -- what stood before a draw that returned r and left this list
@@ -19,6 +20,54 @@ module _ {A E : Type 0} where
   shown_before [] r rest w = rw w.0 refl
   shown_before (Ok x ∷ l) r rest w = rw (w.0, w.1) refl
   shown_before (Err e ∷ l) r rest w = rw (w.0, w.1) refl
+
+-- ---- what runs take
+
+module _ {S A E : Type 0} (shows : S → List (Result A E)) where
+  takes_first_of_shown : (l : List (Result A E)) (r : Answered A E) (rest : List (Result A E)) → TakesShown l r rest → (rest ≡ drop 1 l) × ((k : ℕ) → r ∷ first_answers k rest ≡ first_answers (suc k) l)
+  takes_first_of_shown [] r rest w = (rw w.1 refl, (λ k. rw (w.0, w.1) refl))
+  takes_first_of_shown (y ∷ l) r rest w = (rw w.1 refl, (λ k. rw (w.0, w.1) refl))
+
+  drop_of_drop_one : (n : ℕ) (l : List (Result A E)) → drop n (drop 1 l) ≡ drop (suc n) l
+  drop_of_drop_one zero [] = refl
+  drop_of_drop_one (suc n) [] = refl
+  drop_of_drop_one n (y ∷ l) = refl
+
+  between_shown : (s u : S) (r : Answered A E) (n k : ℕ) → shows u ≡ drop 1 (shows s) → ((i : ℕ) → i < k → (v : S) × (shows v ≡ drop i (shows u))) → n < suc k → (v : S) × (shows v ≡ drop n (shows s))
+  between_shown s u r zero k left each within = (s, refl)
+  between_shown s u r (suc n) k left each within = let h = each n (omega (arith, within)) in (h.0, h.1 ∙ ap (drop n) left ∙ drop_of_drop_one n (shows s))
+
+  takes_all_of_run : (trace : List (Answered A E)) (s t : S) → Run (listing shows).steps s trace t → TakesAllShown shows s trace t
+  takes_all_of_run [] s t ran = record { answers = refl; rest = sym (ap shows ran); between = λ n within. absurd (omega (arith, within)); none = λ e. ran }
+  takes_all_of_run (r ∷ rest) s t ran = let h = takes_all_of_run rest ran.0 t ran.2 in let first = takes_first_of_shown (shows s) r (shows ran.0) ran.1 in record {
+    answers = ap (λ l. r ∷ l) h.answers ∙ first.1 (length rest);
+    rest = h.rest ∙ ap (drop (length rest)) first.0 ∙ drop_of_drop_one (length rest) (shows s);
+    between = λ n within. between_shown s ran.0 r n (length rest) first.0 h.between within;
+    none = λ e. absurd (let k = e in cc);
+  }
+
+  takes_shown_of_first : (l : List (Result A E)) (r : Answered A E) (more : List (Answered A E)) (rest : List (Result A E)) (k : ℕ) → r ∷ more ≡ first_answers (suc k) l → rest ≡ drop 1 l → TakesShown l r rest × (more ≡ first_answers k rest)
+  takes_shown_of_first [] r more rest k is left = (((let h = is in cc), left), (rw left (let h = is in cc)))
+  takes_shown_of_first (y ∷ l) r more rest k is left = (((let h = is in cc), left), (rw left (let h = is in cc)))
+
+  run_of_takes_all : (trace : List (Answered A E)) (s t : S) → TakesAllShown shows s trace t → Run (listing shows).steps s trace t
+  run_of_takes_all [] s t d = d.none refl
+  run_of_takes_all (r ∷ []) s t d = (t, (takes_shown_of_first (shows s) r [] (shows t) 0 d.answers d.rest).0, refl)
+  run_of_takes_all (r ∷ q ∷ rest) s t d =
+      let u = d.between 1 (omega arith) in
+      let first = takes_shown_of_first (shows s) r (q ∷ rest) (shows u.0) (length (q ∷ rest)) d.answers u.1 in (
+        u.0,
+        first.0,
+        run_of_takes_all (q ∷ rest) u.0 t (record {
+          answers = first.1;
+          rest = d.rest ∙ sym (ap (drop (length (q ∷ rest))) u.1 ∙ drop_of_drop_one (length (q ∷ rest)) (shows s));
+          between = λ n within. let v = d.between (suc n) (omega (arith, within)) in (v.0, v.1 ∙ sym (ap (drop n) u.1 ∙ drop_of_drop_one n (shows s)));
+          none = λ e. absurd (let k = e in cc);
+        }),
+      )
+
+  pub listing_traced : IsTraced (listing shows).steps (TakesAllShown shows)
+  listing_traced s trace t = (takes_all_of_run trace s t, run_of_takes_all trace s t)
 
 module _ {S A E : Type 0} (shows : S → List (Result A E)) where
   always_gives_shown : (l : List (Result A E)) (s : S) → shows s ≡ l → AlwaysGives (listing shows).steps s l
@@ -50,7 +99,7 @@ module _ {S A E : Type 0} (shows : S → List (Result A E)) where
       lenders = refl;
     };
     bounded = λ s. ((λ f. (length (shows s), omega arith)), (λ n. tt));
-    traced = λ _ _ _. ((λ h. h), (λ h. h));
+    traced = listing_traced shows;
     hold = own_hold;
   }
 

@@ -2,7 +2,7 @@
 use Rattle.std.specs.Prelude.{◌≡◌, ◌⊎◌, map, List, [], ◌∷◌, ◌++◌, Result}
 use Rattle.std.proofs.Common.{refl, sym, ap, subst, ◌∙◌, inl, inr}
 use Rattle.fallible_contract.specs.Traces.{Answered, Run, end}
-use Rattle.fallible_contract.specs.Contract.{Contract}
+use Rattle.fallible_contract.specs.Contract.{Contract, seen_as}
 use Rattle.fallible_contract.specs.Lists.{AlwaysGives, Lists, result_answer}
 use Rattle.fallible_contract.specs.Own.{Gathers, gathering}
 use Rattle.fallible_iterator.specs.Gathering.{gathering_by}
@@ -49,21 +49,21 @@ module _ {S P A E B F : Type 0} (view : S → P) (made : List (Answered A E) →
   gives_then_cons y out r t (inl k) = absurd (let h = k.1 in cc)
   gives_then_cons y out r t (inr k) = (k.1.0, (k.0, sym k.1.1, k.2))
 
-  always_gives_gathered : (out : List (Result B F)) (s : S) (l : List (Result A E)) → answers l ≡ out → AlwaysGives m.steps (view s) l → AlwaysGives (gathering view made m).steps s out
+  always_gives_gathered : (out : List (Result B F)) (s : S) (l : List (Result A E)) → answers l ≡ out → AlwaysGives m.steps (view s) l → AlwaysGives (seen_as view (gathering made m)).steps s out
   always_gives_gathered [] s l is i = λ r t g. gives_then_nil r t (subst (λ k. GivesThen k r t) is (gives_then_of_run g.taken l r t g.answers (drawn_along_run m.steps (view s) (view t) g.taken l g.drawn i)))
   always_gives_gathered (y ∷ out) s l is i = λ r t g. let k = gives_then_cons y out r t (subst (λ k. GivesThen k r t) is (gives_then_of_run g.taken l r t g.answers (drawn_along_run m.steps (view s) (view t) g.taken l g.drawn i))) in (k.0, always_gives_gathered out t k.1.0 k.1.1 k.1.2)
 
   -- it lists the answers that are made of the list
-  pub lists_gathered : {s : S} {l : List (Result A E)} → Lists m.steps (view s) l → Lists (gathering view made m).steps s (answers l)
+  pub lists_gathered : {s : S} {l : List (Result A E)} → Lists m.steps (view s) l → Lists (seen_as view (gathering made m)).steps s (answers l)
   lists_gathered {s = s} {l = l} i = record { runs = always_gives_gathered (answers l) s l refl i.runs }
 
 -- ---- where a part that stays says what is made
 
 module _ {S P K A E B F : Type 0} (view : S → P) (key : S → K) (made : K → List (Answered A E) → Answered B F → Type 0) (m : Contract P A E) where
-  always_gives_gathered_by : (k : K) (s : S) (out : List (Result B F)) → key s ≡ k → AlwaysGives (gathering view (made k) m).steps s out → AlwaysGives (gathering_by view key made m).steps s out
+  always_gives_gathered_by : (k : K) (s : S) (out : List (Result B F)) → key s ≡ k → AlwaysGives (seen_as view (gathering (made k) m)).steps s out → AlwaysGives (seen_as (λ u. (view u, key u)) (gathering_by made m)).steps s out
   always_gives_gathered_by k s [] same i = λ r t w. i r t (subst (λ z. Gathers m.steps (made z) (view s) r (view t)) same w.0)
   always_gives_gathered_by k s (y ∷ out) same i = λ r t w. let h = i r t (subst (λ z. Gathers m.steps (made z) (view s) r (view t)) same w.0) in (h.0, always_gives_gathered_by k t out (w.1 ∙ same) h.1)
 
   -- it lists the answers that are made of the list, as its part says
-  pub lists_gathered_by : (answers : K → List (Result A E) → List (Result B F)) → ((k : K) → Cuts (made k) (answers k)) → {s : S} {l : List (Result A E)} → Lists m.steps (view s) l → Lists (gathering_by view key made m).steps s (answers (key s) l)
+  pub lists_gathered_by : (answers : K → List (Result A E) → List (Result B F)) → ((k : K) → Cuts (made k) (answers k)) → {s : S} {l : List (Result A E)} → Lists m.steps (view s) l → Lists (seen_as (λ u. (view u, key u)) (gathering_by made m)).steps s (answers (key s) l)
   lists_gathered_by answers cuts {s = s} {l = l} i = record { runs = always_gives_gathered_by (key s) s (answers (key s) l) refl (lists_gathered view (made (key s)) m (answers (key s)) (cuts (key s)) i).runs }

@@ -9,7 +9,7 @@ use Rattle.fallible_contract.specs.Contract.{OnAnswer, NoMore, NoMoreRemains, Fe
 use Rattle.fallible_contract.specs.Ends.{from_back, LawfulEnds}
 use Rattle.fallible_contract.specs.BothEnds.{TakesFirst, ListsBothEndsFor, ListsBothEnds}
 use Rattle.fallible_contract.specs.Showing.{TakesShown, listing}
-use Rattle.fallible_contract.specs.Laws.Showing.{lawful_listing}
+use Rattle.fallible_contract.specs.Laws.Showing.{lawful_listing, listing_traced}
 use Rattle.fallible_iterator.specs.ShowingEnds.{listing_ends}
 
 module _ {S A E : Type 0} (shows : S → List (Result A E)) where
@@ -47,8 +47,8 @@ module _ {S A E : Type 0} (shows : S → List (Result A E)) where
         lenders = refl;
       };
       bounded = λ s. ((λ f. (length (shows s), omega arith)), (λ n. tt));
+      traced = listing_traced (λ u. reverse (shows u));
       hold = own_hold;
-      traced = λ _ _ _. ((λ h. h), (λ h. h));
     };
   }
 
