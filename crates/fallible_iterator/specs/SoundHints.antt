@@ -2,33 +2,9 @@
 use Rattle.std.specs.Prelude.{◌≡◌, ℕ, ◌+◌, ◌≤◌, List, [], length, map, Option, Result, None, IfSome, MatchOption}
 use Rattle.std.specs.Iterator as calls
 use Rattle.std.specs.Iterator.{Count, at_most}
-use Rattle.fallible_contract.specs.Traces.{Answered, Yields, end}
 use Rattle.fallible_contract.specs.Contract.{Contract}
 use Rattle.fallible_contract.specs.BothEnds.{items_listed, failures_listed}
-
-module _ {S A E : Type 0} (steps : S → Answered A E → S → Type 0) (s : S) where
-  -- Each run of items alone from s has at most the upper bound of them, where there is one.
-  abbrev pub BoundsAbove : Option ℕ → Type 0
-  BoundsAbove high = (xs : List A) (t : S) → Yields steps s xs t → IfSome high (λ n. length xs ≤ n)
-
-  -- Each run of items and then an end from s has at least the lower bound of them.
-  abbrev pub BoundsBelow : ℕ → Type 0
-  BoundsBelow low = (xs : List A) (t u : S) → Yields steps s xs t → steps t end u → low ≤ length xs
-
-  -- The hint brackets what comes from s: each run of items alone has at most its upper bound of them, and each run of items and then an end has at least its lower bound.
-  pub record Brackets (hint : ℕ × Option ℕ) : Type 0 where
-    pub above : BoundsAbove hint.1
-    pub below : BoundsBelow hint.0
-
--- The hint h of s is as sound as the hint k of its source: the upper bound of h bounds what comes from s wherever that of k bounds what comes from the source, and the lower bound of h wherever that of k does.
-pub record AsSound {S A E T B D : Type 0} (steps : S → Answered A E → S → Type 0) (s : S) (h : ℕ × Option ℕ) (source : T → Answered B D → T → Type 0) (it : T) (k : ℕ × Option ℕ) : Type 0 where
-  pub above : BoundsAbove source it k.1 → BoundsAbove steps s h.1
-  pub below : BoundsBelow source it k.0 → BoundsBelow steps s h.0
-
--- The hint h of s is as sound as the hints j and k of two sources: the upper bound of h bounds what comes from s wherever those of j and k bound what comes from the sources, and the lower bound of h wherever those of j and k do.
-pub record AsSoundAsBoth {S A E T B D U C F : Type 0} (steps : S → Answered A E → S → Type 0) (s : S) (h : ℕ × Option ℕ) (left : T → Answered B D → T → Type 0) (it : T) (j : ℕ × Option ℕ) (right : U → Answered C F → U → Type 0) (other : U) (k : ℕ × Option ℕ) : Type 0 where
-  pub above : BoundsAbove left it j.1 → BoundsAbove right other k.1 → BoundsAbove steps s h.1
-  pub below : BoundsBelow left it j.0 → BoundsBelow right other k.0 → BoundsBelow steps s h.0
+pub use Rattle.fallible_core.specs.Laws.Hints.Brackets.{BoundsAbove, BoundsBelow, Brackets, AsSound, AsSoundAsBoth}
 
 module _ {S A E : Type 0} (m : Contract S A E) (s : S) where
   -- Each hint that s may return brackets what comes from s.

@@ -91,7 +91,7 @@ clones_listed is_clone is_infallible from front back s _ (clones it asked at all
 clones_listed is_clone is_infallible from front back s _ (originals it l at equal infallible i) = lists_both_ends_of_parts cloned_parts s at (passed_clones_are_pointed_to l) (lists_both_ends_originals is_clone is_infallible from equal infallible front back l it i)
 
 -- which looks ahead
-pub held_listed : {S A E : Type 0} (m : Contract S A E) (e : Ends S A E) (s : Peekable S A E) (l : List (Result A E)) → ListsHeld peekable_parts (ListsBothEnds m.steps e.steps) s l → ListsBothEnds (parts_as peekable_parts (peekable_contract m)).steps (ends_parts_as peekable_parts (peekable_ends e)).steps s l
+pub held_listed : {S A E : Type 0} (m : Contract S A E) (e : Ends S A E) (s : Peekable S A E) (l : List (Result A E)) → ListsHeld peekable_parts (ListsBothEnds m.steps e.steps) s l → ListsBothEnds (parts_as peekable_parts (peekable_contract m)).steps (ends_parts_as peekable_parts (peekable_ends m e)).steps s l
 held_listed m e s l h = rw h.3 (lists_both_ends_peekable m e s h.0 h.1 h.2)
 
 -- ---- what points to another value

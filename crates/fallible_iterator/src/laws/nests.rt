@@ -1,13 +1,11 @@
 // The headline of two nests of adapters, with the definition of each type written out.
-ghost use Rattle.std.specs.Prelude.{Result, Option, List, [], ◌↔◌};
+ghost use Rattle.std.specs.Prelude.{Result, Option, List, ◌↔◌};
 ghost use Rattle.std.specs.Borrow.{Bor};
-ghost use Rattle.fallible_contract.specs.Traces.{Answered, Run, first_of};
-ghost use Rattle.fallible_contract.specs.Closures.{call_by_value, call_by_reference};
-ghost use Rattle.fallible_contract.specs.Passing.{passes_all};
-ghost use Rattle.fallible_core.specs.OneToOne.Map.{map_outcome, map_parts, map_source, map_closure, MapTrace};
-ghost use Rattle.fallible_core.specs.Filtering.Filter.{tested_outcome, filter_parts, filter_source, filter_predicate, FilterTrace};
+ghost use Rattle.fallible_contract.specs.Traces.{Answered, Run};
+ghost use Rattle.fallible_core.specs.OneToOne.Map.{map_parts, MapTrace};
+ghost use Rattle.fallible_core.specs.Filtering.Filter.{filter_parts, FilterTrace};
 ghost use Rattle.fallible_core.specs.Cutting.Take.{take_parts, takes_all};
-ghost use Rattle.fallible_core.specs.Cutting.Fuse.{fuse_parts, fuses_all};
+ghost use Rattle.fallible_core.specs.Cutting.Fuse.{fuse_parts, FuseTrace};
 ghost use Rattle.fallible_core.specs.Joining.Chain.{chain_parts, chains_all};
 ghost use Rattle.fallible_iterator.specs.Sources.Convert.{ConvertTrace, convert_parts};
 
@@ -33,10 +31,9 @@ pub fn law_nest<
         (t : Fuse (Chain (Take (Map (Filter I P) F)) U))
         → Run ⟦<Fuse<Chain<Take<Map<Filter<I, P>, F>>, U>> as FallibleIterator>⟧.contract.steps
         s trace t
-        ↔ fuses_all (λ v chained w. chains_all (λ a cut b. takes_all (λ c mapped d. passes_all
-        (λ e kept f. passes_all I.contract.traces (call_by_reference P.FnMut) tested_outcome
-        (filter_parts e) kept (filter_parts f))
-        (call_by_value F.FnMut) map_outcome (map_parts c) mapped (map_parts d))
+        ↔ FuseTrace (λ v chained w. chains_all (λ a cut b. takes_all (λ c mapped d. MapTrace
+        (λ e kept f. FilterTrace I.contract.traces P.FnMut (filter_parts e) kept (filter_parts f))
+        F.FnMut (map_parts c) mapped (map_parts d))
         (take_parts a) cut (take_parts b))
         U.contract.traces (chain_parts v) chained (chain_parts w))
         (fuse_parts s) trace (fuse_parts t) }
@@ -56,15 +53,10 @@ pub fn law_nest_of_three<
     ensures { (s : Filter (Map (Convert I) F) P) (trace : List (Answered B E))
         (t : Filter (Map (Convert I) F) P)
         → Run ⟦<Filter<Map<Convert<I>, F>, P> as FallibleIterator>⟧.contract.steps s trace t
-        ↔ (made : List (Answered B E))
-        × ((drawn : List (Answered T E))
-        × ConvertTrace I.can_next I.next_gives I.remaining
-        (convert_parts (map_source (filter_source s))) drawn
-        (convert_parts (map_source (filter_source t)))
-        × MapTrace first_of F.FnMut (drawn, map_closure (filter_source s)) made
-        ([], map_closure (filter_source t)))
-        × FilterTrace first_of P.FnMut (made, filter_predicate s) trace
-        ([], filter_predicate t) }
+        ↔ FilterTrace (λ a made b. MapTrace (λ c drawn d. ConvertTrace I.can_next I.next_gives
+        I.remaining (convert_parts c) drawn (convert_parts d))
+        F.FnMut (map_parts a) made (map_parts b))
+        P.FnMut (filter_parts s) trace (filter_parts t) }
 {
     law_headline::<Filter<Map<Convert<I>, F>, P>>();
 }

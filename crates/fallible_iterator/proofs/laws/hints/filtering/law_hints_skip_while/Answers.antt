@@ -1,9 +1,10 @@
 -- An item comes of an item of the source, and once the predicate isn't called an end of an end.
 use Rattle.std.proofs.Common.{inl, inr}
 use Rattle.fallible_core.specs.Filtering.SkipWhile.{skip_while_parts}
-use Rattle.fallible_iterator.proofs.Lemmas.Hints.Drawn.{as_sound_where_one_of_one, as_sound_upper_alone_of_source, as_sound_seen}
-use Rattle.fallible_iterator.proofs.Lemmas.Hints.Passing.{items_of_items_passing}
-use Rattle.fallible_iterator.proofs.Lemmas.Hints.Filtering.{source_hints_where_found, upper_alone_while_asked, one_of_one_skip_while, true_or_false}
+use Rattle.fallible_core.specs.Laws.Hints.Drawn.{as_sound_where_one_of_one, as_sound_upper_alone_of_source, as_sound_seen}
+use Rattle.fallible_core.specs.Laws.Hints.Passing.{items_of_items_passing}
+use Rattle.fallible_core.specs.Laws.Hints.Filtering.{one_of_one_skip_while}
+use Rattle.fallible_iterator.proofs.Lemmas.Hints.Filtering.{source_hints_where_found, upper_alone_while_asked, true_or_false}
 use Rattle.fallible_iterator.proofs.laws.hints.filtering.law_hints_skip_while.Goals as goal
 
 pub returns : goal.returns

@@ -1,7 +1,8 @@
 -- A held item comes first, and then the source's items; at a held end no item comes.
 use Rattle.fallible_core.specs.Peeking.Peekable.{peekable_parts}
-use Rattle.fallible_iterator.proofs.Lemmas.Hints.Drawn.{brackets_seen, brackets_of_equal_hint, as_sound_where_one_of_one, as_sound_seen}
-use Rattle.fallible_iterator.proofs.Lemmas.Hints.Peeking.{one_of_one_peekable, as_sound_item_held, brackets_zero_where_end_held, source_hints_where_none_held, hint_with_item_where_item_held, hint_zero_where_end_held}
+use Rattle.fallible_core.specs.Laws.Hints.Drawn.{brackets_seen, brackets_of_equal_hint, as_sound_where_one_of_one, as_sound_seen}
+use Rattle.fallible_core.specs.Laws.Hints.Peeking.{one_of_one_peekable, as_sound_item_held, brackets_zero_where_end_held}
+use Rattle.fallible_iterator.proofs.Lemmas.Hints.Peeking.{source_hints_where_none_held, hint_with_item_where_item_held, hint_zero_where_end_held}
 use Rattle.fallible_iterator.proofs.laws.hints.peeking.law_hints_peekable.Goals as goal
 
 pub returns-clause-none_held : goal.returns-clause-none_held
