@@ -11,6 +11,11 @@ module _ {S A E : Type 0} (steps : S → Answered A E → S → Type 0) (s : S) 
   abbrev pub BoundsBelow : ℕ → Type 0
   BoundsBelow low = (xs : List A) (t u : S) → Yields steps s xs t → steps t end u → low ≤ length xs
 
+  -- The hint brackets what comes from s: each run of items alone has at most its upper bound of them, and each run of items and then an end has at least its lower bound.
+  pub record Brackets (hint : ℕ × Option ℕ) : Type 0 where
+    pub above : BoundsAbove hint.1
+    pub below : BoundsBelow hint.0
+
 -- Of which values an upper bound that a hint may have is sound, and of which a lower one is.
 pub record SoundWhere (S : Type 0) : Type 1 where
   pub above : S → Option ℕ → Type 0
@@ -41,29 +46,12 @@ above_as_source source_of w = record { above = λ s high. w.above (source_of s) 
 abbrev pub sound_once : {V : Type 0} → (V → Type 0) → SoundWhere V → SoundWhere V
 sound_once done w = record { above = λ s high. (done s → ⊥) → w.above s high; below = λ s low. (done s → ⊥) → w.below s low }
 
-module _ {S : Type 0} (hints : S → ℕ × Option ℕ → Type 0) (w : SoundWhere S) (s : S) where
-  -- the upper bound of each hint that s may return is sound
-  abbrev pub EachAbove : Type 0
-  EachAbove = (h : ℕ × Option ℕ) → hints s h → w.above s h.1
-
-  -- and so with the lower one
-  abbrev pub EachBelow : Type 0
-  EachBelow = (h : ℕ × Option ℕ) → hints s h → w.below s h.0
-
--- wherever each hint of the source is
-abbrev pub as_each : {V S : Type 0} → (V → S) → (S → ℕ × Option ℕ → Type 0) → SoundWhere S → SoundWhere V
-as_each source_of hints w = record { above = λ s high. EachAbove hints w (source_of s); below = λ s low. EachBelow hints w (source_of s) }
-
 -- a hint that is made of one of the source, wherever that one is one of the source
 abbrev pub as_made : {V S : Type 0} → (V → S) → (S → ℕ × Option ℕ → Type 0) → SoundWhere S → (V → ℕ × Option ℕ → ℕ × Option ℕ) → SoundWhere V
 as_made source_of hints w made = record {
   above = λ s high. (k : ℕ × Option ℕ) × hints (source_of s) k × (high ≡ (made s k).1) × w.above (source_of s) k.1;
   below = λ s low. (k : ℕ × Option ℕ) × hints (source_of s) k × (low ≡ (made s k).0) × w.below (source_of s) k.0;
 }
-
--- wherever each hint of both sources is
-abbrev pub as_both : {V T U : Type 0} → (V → T) → (V → U) → (T → ℕ × Option ℕ → Type 0) → SoundWhere T → (U → ℕ × Option ℕ → Type 0) → SoundWhere U → SoundWhere V
-as_both left right hints w others v = record { above = λ s high. EachAbove hints w (left s) × EachAbove others v (right s); below = λ s low. EachBelow hints w (left s) × EachBelow others v (right s) }
 
 -- a hint that is made of one of each source, wherever each of these is one of its source
 abbrev pub as_made_of_both : {V T U : Type 0} → (V → T) → (V → U) → (T → ℕ × Option ℕ → Type 0) → SoundWhere T → (U → ℕ × Option ℕ → Type 0) → SoundWhere U → (ℕ × Option ℕ → ℕ × Option ℕ → ℕ × Option ℕ) → SoundWhere V

@@ -1,11 +1,9 @@
--- Why hints are sound. What the crate below has of it is reexported.
-pub mod ByNumber
-pub mod Cutting
+-- What hints say of lists. Why they are sound the crate below has, which is reexported.
 pub mod Failing
-pub mod Filtering
-pub mod Joining
 pub mod ListsBothEnds
-pub mod Peeking
 pub mod Sources
+pub use Rattle.fallible_core.specs.Laws.Hints.ByNumber
+pub use Rattle.fallible_core.specs.Laws.Hints.Cutting
 pub use Rattle.fallible_core.specs.Laws.Hints.Drawn
+pub use Rattle.fallible_core.specs.Laws.Hints.Joining
 pub use Rattle.fallible_core.specs.Laws.Hints.Passing

@@ -1,13 +1,7 @@
--- What makes a hint sound, and as sound as others.
+-- What makes a hint as sound as others.
 use Rattle.std.specs.Prelude.{ℕ, Option}
 use Rattle.fallible_contract.specs.Traces.{Answered}
-pub use Rattle.fallible_contract.specs.Sound.{BoundsAbove, BoundsBelow}
-
-module _ {S A E : Type 0} (steps : S → Answered A E → S → Type 0) (s : S) where
-  -- The hint brackets what comes from s: each run of items alone has at most its upper bound of them, and each run of items and then an end has at least its lower bound.
-  pub record Brackets (hint : ℕ × Option ℕ) : Type 0 where
-    pub above : BoundsAbove steps s hint.1
-    pub below : BoundsBelow steps s hint.0
+pub use Rattle.fallible_contract.specs.Sound.{BoundsAbove, BoundsBelow, Brackets}
 
 -- The hint h of s is as sound as the hint k of its source: the upper bound of h bounds what comes from s wherever that of k bounds what comes from the source, and the lower bound of h wherever that of k does.
 pub record AsSound {S A E T B D : Type 0} (steps : S → Answered A E → S → Type 0) (s : S) (h : ℕ × Option ℕ) (source : T → Answered B D → T → Type 0) (it : T) (k : ℕ × Option ℕ) : Type 0 where

@@ -2,7 +2,7 @@
 use Rattle.std.specs.Prelude.{◌≡◌, ℕ, Option, ◌⊎◌}
 use Rattle.std.proofs.Common.{sym, ap, subst, arith, inl, inr}
 use Rattle.fallible_contract.specs.Traces.{Answered}
-use Rattle.fallible_contract.specs.Sound.{SoundWhere, HintsHold, sound_always, as_source, above_as_source, as_each, as_made, as_both, as_made_of_both, sound_once}
+use Rattle.fallible_contract.specs.Sound.{SoundWhere, HintsHold, sound_always, as_source, above_as_source, as_made, as_made_of_both, sound_once}
 use Rattle.fallible_core.specs.Laws.Hints.Brackets.{AsSound, AsSoundAsBoth, Brackets, BoundsAbove, BoundsBelow}
 
 module _ {V S A B D E : Type 0} (steps : V → Answered B D → V → Type 0) (hints : V → ℕ × Option ℕ → Type 0) {source : S → Answered A E → S → Type 0} {source_hints : S → ℕ × Option ℕ → Type 0} {w : SoundWhere S} (holds : HintsHold source source_hints w) (source_of : V → S) where
@@ -18,13 +18,6 @@ module _ {V S A B D E : Type 0} (steps : V → Answered B D → V → Type 0) (h
   hold_above_as_source f = record {
     above = λ s h is a. let k = f s h is in k.3.above (holds.above (source_of s) k.0 k.1 (subst (λ (o : Option ℕ). w.above (source_of s) o) (ap (λ (z : ℕ × Option ℕ). z.1) k.2) a));
     below = λ s h is b xs t u ran step. let k = f s h is in let none = ap (λ (z : ℕ × Option ℕ). z.0) k.2 in omega (arith, none);
-  }
-
-  -- it is made of one of the source, and as sound as that one
-  pub hold_as_each : ((s : V) (h : ℕ × Option ℕ) → hints s h → (k : ℕ × Option ℕ) × source_hints (source_of s) k × AsSound steps s h source (source_of s) k) → HintsHold steps hints (as_each source_of source_hints w)
-  hold_as_each f = record {
-    above = λ s h is a. let k = f s h is in k.2.above (holds.above (source_of s) k.0 k.1 (a k.0 k.1));
-    below = λ s h is b. let k = f s h is in k.2.below (holds.below (source_of s) k.0 k.1 (b k.0 k.1));
   }
 
   -- each that is made of one of the source is as sound as that one
@@ -52,14 +45,7 @@ module _ {V S A B D E : Type 0} (steps : V → Answered B D → V → Type 0) (h
 pub hold_always : {V B D : Type 0} (steps : V → Answered B D → V → Type 0) (hints : V → ℕ × Option ℕ → Type 0) → ((s : V) (h : ℕ × Option ℕ) → hints s h → Brackets steps s h) → HintsHold steps hints sound_always
 hold_always steps hints f = record { above = λ s h is a. (f s h is).above; below = λ s h is b. (f s h is).below }
 
--- it is made of one of each source, and as sound as both
 module _ {V S U A B C D E F : Type 0} (steps : V → Answered B D → V → Type 0) (hints : V → ℕ × Option ℕ → Type 0) {left : S → Answered A E → S → Type 0} {left_hints : S → ℕ × Option ℕ → Type 0} {right : U → Answered C F → U → Type 0} {right_hints : U → ℕ × Option ℕ → Type 0} {w : SoundWhere S} {v : SoundWhere U} (holds : HintsHold left left_hints w) (others : HintsHold right right_hints v) (left_of : V → S) (right_of : V → U) where
-  pub hold_as_both : ((s : V) (h : ℕ × Option ℕ) → hints s h → (j : ℕ × Option ℕ) × (k : ℕ × Option ℕ) × left_hints (left_of s) j × right_hints (right_of s) k × AsSoundAsBoth steps s h left (left_of s) j right (right_of s) k) → HintsHold steps hints (as_both left_of right_of left_hints w right_hints v)
-  hold_as_both f = record {
-    above = λ s h is a. let k = f s h is in k.4.above (holds.above (left_of s) k.0 k.2 (a.0 k.0 k.2)) (others.above (right_of s) k.1 k.3 (a.1 k.1 k.3));
-    below = λ s h is b. let k = f s h is in k.4.below (holds.below (left_of s) k.0 k.2 (b.0 k.0 k.2)) (others.below (right_of s) k.1 k.3 (b.1 k.1 k.3));
-  }
-
   -- each that is made of one of each source is as sound as both
   pub hold_as_made_of_both : (made : ℕ × Option ℕ → ℕ × Option ℕ → ℕ × Option ℕ) → ((s : V) (j k : ℕ × Option ℕ) → AsSoundAsBoth steps s (made j k) left (left_of s) j right (right_of s) k) → HintsHold steps hints (as_made_of_both left_of right_of left_hints w right_hints v made)
   hold_as_made_of_both made f = record {

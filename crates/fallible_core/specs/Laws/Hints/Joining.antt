@@ -11,7 +11,7 @@ use Rattle.fallible_core.specs.Joining.Zip.{ZipPlace, left_failed, both_drawn, l
 use Rattle.fallible_contract.specs.Sound.{HintsHold, as_made_of_both, sound_always}
 use Rattle.fallible_contract.specs.Laws.Sound.{hold_seen}
 use Rattle.fallible_core.specs.Laws.Hints.Holding.{hold_as_made_of_both, hold_always}
-use Rattle.fallible_core.specs.Laws.Hints.Brackets.{BoundsAbove, BoundsBelow, Brackets, AsSound, AsSoundAsBoth}
+use Rattle.fallible_core.specs.Laws.Hints.Brackets.{BoundsAbove, BoundsBelow, Brackets, AsSoundAsBoth}
 use Rattle.fallible_core.specs.Laws.Hints.Drawn.{as_sound_as_both_of_brackets, OneOfOne, ItemOfItem, pair_of_parts, source_yields_as_many, as_sound_where_one_of_one, brackets_any_lower_where_no_end, brackets_nothing_said, brackets_of_equal_hint}
 use Rattle.std.specs.declared.alloc.AllocError.{AllocError}
 use Rattle.fallible_core.specs.declared.joining.chain.StillDrawn.{StillDrawn}

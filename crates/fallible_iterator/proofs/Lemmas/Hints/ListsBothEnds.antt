@@ -16,8 +16,8 @@ use Rattle.fallible_contract.specs.Failing.{failures_mapped}
 use Rattle.fallible_core.specs.OneToOne.Cloned.{pointed_to}
 use Rattle.fallible_core.specs.Joining.Chain.{chained}
 use Rattle.fallible_iterator.specs.SoundHints.{Brackets, Bounds}
-use Rattle.fallible_iterator.proofs.Lemmas.Hints.Drawn.{if_some_at_least_of_smaller}
-use Rattle.fallible_iterator.proofs.Lemmas.Hints.Joining.{if_some_fitting_sum_at_least_both}
+use Rattle.fallible_core.specs.Laws.Hints.Drawn.{if_some_at_least_of_smaller}
+use Rattle.fallible_core.specs.Laws.Hints.Joining.{if_some_fitting_sum_at_least_both}
 use Rattle.fallible_contract.specs.Passing.{LeavesNoneOut}
 use Rattle.fallible_contract.proofs.Lemmas.Passing.{not_left_out}
 use Rattle.fallible_contract.specs.declared.passing.Outcome.{Outcome}

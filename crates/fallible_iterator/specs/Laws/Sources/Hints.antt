@@ -1,5 +1,5 @@
 -- Why the hints of the sources are sound where they say so.
-use Rattle.std.specs.Prelude.{◌≡◌, ℕ, ◌≤◌, ◌-◌, ◌^◌, List, [], ◌∷◌, length, Option, Some, None, Ok, Err}
+use Rattle.std.specs.Prelude.{◌≡◌, ℕ, ◌≤◌, ◌-◌, ◌^◌, List, [], ◌∷◌, length, Option, Some, None}
 use Rattle.std.proofs.Common.{sym, subst, arith}
 use Rattle.fallible_contract.specs.Traces.{Answered, Yields, item, failure, end}
 use Rattle.fallible_contract.specs.Sound.{HintsHold, sound_always}

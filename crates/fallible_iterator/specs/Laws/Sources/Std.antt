@@ -1,7 +1,7 @@
 -- The contract over a std iterator is lawful, from the front and from both ends.
-use Rattle.std.specs.Prelude.{◌≡◌, ℕ, Result, List, length, IfSome, [], ◌∷◌, map, ◌≤◌, Option, Some, None, Ok, Err, ◌↔◌}
+use Rattle.std.specs.Prelude.{◌≡◌, ℕ, ◌+◌, Result, List, length, IfSome, [], ◌∷◌, map, ◌≤◌, Option, Some, None, Ok, Err, ◌↔◌}
 use Rattle.std.specs.Iterator.{Count, IsFinite, size, UpTo}
-use Rattle.std.proofs.Common.{refl, arith}
+use Rattle.std.proofs.Common.{refl, ap, arith, inl, inr}
 use Rattle.fallible_contract.specs.Traces.{Answered, Run, Yields, item, failure, end}
 use Rattle.fallible_contract.specs.Sound.{HintsHold, BoundsAbove}
 use Rattle.std.specs.Iterator.SizeHint.{IsWithinCount}
@@ -11,7 +11,7 @@ use Rattle.fallible_contract.specs.Ends.{LawfulEnds}
 use Rattle.fallible_contract.specs.BothEnds.{step_at, RunAtEnds}
 use Rattle.fallible_contract.specs.Lists.{result_answer}
 use Rattle.fallible_iterator.specs.Sources.IntoFallible.{never}
-use Rattle.fallible_iterator.specs.Sources.Std.{std_element, std_sound, std_step, std_contract, std_ends, IsAskable, Comes, IsAskableAtEnds, ComesAtEnds, StdTrace}
+use Rattle.fallible_iterator.specs.Sources.Std.{std_element, CountsDown, std_sound, std_step, std_contract, std_ends, IsAskable, Comes, IsAskableAtEnds, ComesAtEnds, StdTrace}
 use Rattle.fallible_contract.specs.declared.answers.Side.{Side}
 use Rattle.fallible_contract.specs.declared.answers.Side.TheVariants.{Front, Back}
 
@@ -48,6 +48,11 @@ module _ {S A E Z : Type 0} (of_item : A → Z) (of_failure : E → Z) (can : S 
   calls_yield_of_yields [] s t e = e
   calls_yield_of_yields (x ∷ xs) s t ran = (ran.0, ran.1.0, calls_yield_of_yields xs ran.0 t ran.2)
 
+  -- where each call takes one of what is left
+  left_before_is_left_after_and_yielded : (left : S → ℕ) → CountsDown left gives → (xs : List A) (s t : S) → Yields called_step s xs t → left s ≡ left t + length xs
+  left_before_is_left_after_and_yielded left counts [] s t ran = let same : left s ≡ left t = ap left ran in omega (arith, same)
+  left_before_is_left_after_and_yielded left counts (x ∷ xs) s t ran = let one : left s ≡ left ran.0 + 1 = counts s (Some (of_item x)) ran.0 ran.1.0 in let rest = left_before_is_left_after_and_yielded left counts xs ran.0 t ran.2 in omega (arith, one, rest)
+
   -- each element lowers what remains
   length_at_most_remaining : (xs : List A) (s t : S) → Yields called_step s xs t → IsFinite (remaining s) → length xs ≤ size (remaining s)
   length_at_most_remaining [] s t ran f = omega arith
@@ -64,7 +69,10 @@ module _ {S A E Z : Type 0} (of_item : A → Z) (of_failure : E → Z) (can : S 
   std_hold : HintsHold called_step (λ s h. IsWithinCount h.0 (remaining s) × IfSome h.1 (UpTo (remaining s))) (std_sound of_item gives)
   std_hold = record {
     above = λ s h is a. bounds_above_where_up_to_remaining s h.1 is.1;
-    below = λ s h is b xs t u ran step. b xs u (t, calls_yield_of_yields xs s t ran, step.0);
+    below = λ s h is b xs t u ran step. elim b [
+      | inl c ↦ let after = left_before_is_left_after_and_yielded c.0 c.1 xs s t ran in let none : c.0 t ≡ 0 = c.1 t None u step.0 in omega (arith, c.2, after, none)
+      | inr calls_keep ↦ calls_keep xs u (t, calls_yield_of_yields xs s t ran, step.0)
+    ];
   }
 
 module _ {S A E Z : Type 0} (of_item : A → Z) (of_failure : E → Z) (can : S → Type 0) (gives : S → Option Z → S → Type 0) (remaining : S → Count) (Askable : S → Type 0) (Arrives : S → Answered A E → Type 0) where

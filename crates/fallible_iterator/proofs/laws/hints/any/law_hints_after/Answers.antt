@@ -1,5 +1,5 @@
 -- A run and then another are one.
-use Rattle.fallible_iterator.proofs.Lemmas.Hints.Drawn.{brackets_hint_less_after_yields}
+use Rattle.fallible_core.specs.Laws.Hints.Drawn.{brackets_hint_less_after_yields}
 use Rattle.fallible_iterator.proofs.laws.hints.any.law_hints_after.Goals as goal
 
 pub returns : goal.returns

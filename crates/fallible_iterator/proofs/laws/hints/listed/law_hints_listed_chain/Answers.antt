@@ -1,6 +1,6 @@
 -- The sums of the bounds bound both lists together.
 use Rattle.fallible_core.specs.Joining.Chain.{chain_parts}
-use Rattle.fallible_iterator.proofs.Lemmas.Hints.Joining.{hints_are_sum_where_both, first_hints_where_first_alone, second_hints_where_second_alone}
+use Rattle.fallible_core.specs.Laws.Hints.Joining.{hints_are_sum_where_both, first_hints_where_first_alone, second_hints_where_second_alone}
 use Rattle.fallible_iterator.proofs.Lemmas.Hints.ListsBothEnds.{bounds_chained, bounds_of_equal_hint}
 use Rattle.fallible_iterator.proofs.laws.hints.listed.law_hints_listed_chain.Goals as goal
 
