@@ -15,10 +15,12 @@ pub use Rattle.fallible_contract.specs.Laws.Failing
 pub use Rattle.fallible_contract.specs.Laws.LawForm
 pub use Rattle.fallible_contract.specs.Laws.Own
 pub use Rattle.fallible_contract.specs.Laws.Passing
+pub use Rattle.fallible_contract.specs.Laws.Sound
 pub use Rattle.fallible_contract.specs.Laws.WithSteps
 pub use Rattle.fallible_core.specs.Laws.Borrowed
 pub use Rattle.fallible_core.specs.Laws.Cutting
 pub use Rattle.fallible_core.specs.Laws.Filtering
+pub use Rattle.fallible_core.specs.Laws.Hints
 pub use Rattle.fallible_core.specs.Laws.Joining
 pub use Rattle.fallible_core.specs.Laws.OneToOne
 pub use Rattle.fallible_core.specs.Laws.Peeking

@@ -37,6 +37,7 @@ pub use Rattle.fallible_contract.specs.Refusals
 pub use Rattle.fallible_contract.specs.Searching
 pub use Rattle.fallible_contract.specs.Showing
 pub use Rattle.fallible_contract.specs.ShownTraces
+pub use Rattle.fallible_contract.specs.Sound
 pub use Rattle.fallible_contract.specs.Traces
 pub use Rattle.fallible_contract.specs.WithSteps
 pub use Rattle.fallible_core.specs.Borrowed
