@@ -41,6 +41,7 @@ pub use Rattle.fallible_itertools_joins.specs.Laws.MergeTreeTraces
 pub use Rattle.fallible_itertools_joins.specs.Laws.OverTraces
 pub use Rattle.fallible_itertools_joins.specs.Laws.PadUsing
 pub use Rattle.fallible_itertools_joins.specs.Laws.Sides
+pub use Rattle.fallible_itertools_joins.specs.Laws.SidesHints
 pub use Rattle.fallible_itertools_joins.specs.Laws.SidesTraces
 pub use Rattle.fallible_itertools_joins.specs.Laws.ZipEq
 pub use Rattle.fallible_itertools_joins.specs.Laws.ZipLongest

@@ -4,6 +4,7 @@ use Rattle.std.specs.Iterator.{IsFinite, size}
 use Rattle.fallible_iterator.specs.Traces.{Answered, Run}
 use Rattle.fallible_iterator.specs.BothEnds.{items_listed, failures_listed}
 use Rattle.fallible_iterator.specs.Contract.{Contract}
+use Rattle.fallible_iterator.specs.Sound.{own_sound}
 use Rattle.fallible_iterator.specs.Fault.{Fault}
 use Rattle.fallible_iterator.specs.Fault.TheVariants.{Memory}
 use Rattle.fallible_itertools.specs.declared.parted.Parted.{Parted}
@@ -44,6 +45,7 @@ parted_contract m = record {
   hints = λ s h. h ≡ (0, None);
   lenders = λ s. m.lenders s;
   traces = λ s trace t. Run (parted_step m.steps) s trace t;
+  sound = own_sound (parted_step m.steps);
 }
 
 -- the source

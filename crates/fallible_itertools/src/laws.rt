@@ -23,10 +23,8 @@ pub use fallible_itertools_adapters::laws::{
     law_unique_by_of, law_unique_of, law_windowed,
 };
 pub use fallible_itertools_joins::laws::{
-    law_hints_interleave, law_hints_kmerge, law_hints_kmerge_by, law_hints_merge,
-    law_hints_merge_by, law_hints_merge_join_by, law_hints_pad_using, law_hints_zip_eq,
-    law_hints_zip_longest, law_interleaved, law_kmerged, law_kmerged_in_order, law_merge_joined,
-    law_merged, law_merged_in_order, law_padded, law_zipped_longest,
+    law_interleaved, law_kmerged, law_kmerged_in_order, law_merge_joined, law_merged,
+    law_merged_in_order, law_padded, law_zipped_longest,
 };
 pub use fold_by_key::law_folded_by_key;
 pub use joined::law_joined;

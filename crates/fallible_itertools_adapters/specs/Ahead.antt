@@ -4,6 +4,7 @@ use Rattle.std.specs.Iterator.{IsFinite, size}
 use Rattle.fallible_iterator.specs.Traces.{Answered, Run, end}
 use Rattle.fallible_iterator.specs.Contract.{Contract, Fewer, KeptByDraws}
 use Rattle.fallible_iterator.specs.Lists.{Lists, nth_of}
+use Rattle.fallible_iterator.specs.Sound.{own_sound}
 
 -- fewer items and failures together remain
 abbrev pub FewerRemain : {P A E : Type 0} → Contract P A E → P → P → Type 0
@@ -36,4 +37,5 @@ making view answers left m = record {
   hints = λ _ h. h ≡ (0, None);
   lenders = λ s. m.lenders (view s);
   traces = λ s trace t. Run (λ u r v. TakesMade m answers left (view u) r (view v)) s trace t;
+  sound = own_sound (λ s r t. TakesMade m answers left (view s) r (view t));
 }

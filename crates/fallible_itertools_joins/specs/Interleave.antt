@@ -5,9 +5,10 @@ use Rattle.fallible_iterator.specs.Contract.{Contract, Inverse, parts_as}
 use Rattle.fallible_iterator.specs.Cutting.Fuse.{fuse_ended, fuse_source}
 use Rattle.fallible_iterator.specs.Hints.{hint_sum}
 use Rattle.fallible_iterator.specs.Lists.{result_answer}
+use Rattle.fallible_iterator.specs.Sound.{as_source}
 use Rattle.fallible_iterator.specs.Traces.{Answered, end}
 use Rattle.fallible_iterator.specs.Fuse.{Fuse}
-use Rattle.fallible_itertools_joins.specs.Sides.{GivesIf, Places, PlacesTrace, fused_contract, fused_steps, places_contract}
+use Rattle.fallible_itertools_joins.specs.Sides.{GivesIf, Places, as_made_of_sides, fused_contract, joins_all, places_contract}
 use Rattle.fallible_itertools_joins.specs.declared.interleave.Interleave.{Interleave}
 
 -- ---- one turn
@@ -80,13 +81,13 @@ interleave_parts s = (interleave_left_fused s, interleave_right_fused s, interle
 pub interleave_made : {T U : Type 0} → Inverse (interleave_parts {T = T} {U = U})
 interleave_made = record { make = λ p. record { left = p.0; right = p.1; right_next = p.2 }; made = λ s. refl; has = λ p. refl }
 
--- `Interleave`: both sides are fused, and there is a turn for each answer.
-abbrev pub InterleaveTrace : {S U A E : Type 0} → (S → Answered A E → S → Type 0) → (U → Answered A E → U → Type 0) → Fuse S × Fuse U × Bool → List (Answered A E) → Fuse S × Fuse U × Bool → Type 0
-InterleaveTrace steps others p trace q = PlacesTrace (fused_steps steps) (fused_steps others) turns (turn_sides p) trace (turn_sides q)
+-- `Interleave`, of two fused sides: there is a turn for each answer.
+abbrev pub InterleaveTrace : {S U A E : Type 0} → (S → List (Answered A E) → S → Type 0) → (U → List (Answered A E) → U → Type 0) → S × U × Bool → List (Answered A E) → S × U × Bool → Type 0
+InterleaveTrace traces others p trace q = joins_all traces others turns (turn_sides p) trace (turn_sides q)
 
 -- `Interleave`'s contract: both sides, fused, are drawn in turn; their bounds are added up, and so is what remains.
 abbrev pub interleave_contract : {S U A E : Type 0} → Contract S A E → Contract U A E → Contract (Fuse S × Fuse U × Bool) A E
-interleave_contract left right = parts_as turn_sides (places_contract (fused_contract left) (fused_contract right) turns hint_sum)
+interleave_contract left right = record (parts_as turn_sides (places_contract (fused_contract left) (fused_contract right) turns hint_sum)) { traces = InterleaveTrace (fused_contract left).traces (fused_contract right).traces; sound = as_source turn_sides (as_made_of_sides (fused_contract left) (fused_contract right) hint_sum) }
 
 -- ---- what it lists
 

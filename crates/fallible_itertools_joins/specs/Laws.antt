@@ -10,6 +10,7 @@ pub mod MergeTreeTraces
 pub mod OverTraces
 pub mod PadUsing
 pub mod Sides
+pub mod SidesHints
 pub mod SidesTraces
 pub mod ZipEq
 pub mod ZipLongest

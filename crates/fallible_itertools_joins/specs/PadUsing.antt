@@ -8,10 +8,11 @@ use Rattle.fallible_iterator.specs.Closures.{IsCallable, call_by_value, takes_by
 use Rattle.fallible_iterator.specs.Contract.{Contract, no_lenders, parts_as, Inverse}
 use Rattle.fallible_iterator.specs.Cutting.Fuse.{fuse_ended, fuse_source}
 use Rattle.fallible_iterator.specs.OneToOne.Map.{map_outcome}
-use Rattle.fallible_iterator.specs.Passing.{PassTrace, passing_contract}
+use Rattle.fallible_iterator.specs.Passing.{passes_all, passing_contract}
+use Rattle.fallible_iterator.specs.Sound.{as_source, sound_always}
 use Rattle.fallible_iterator.specs.Fuse.{Fuse}
 use Rattle.fallible_itertools_joins.specs.Sides.{fused_contract, sides_contract, sides_step}
-use Rattle.fallible_itertools_joins.specs.ZipLongest.{hint_greater, longest_rule}
+use Rattle.fallible_itertools_joins.specs.ZipLongest.{ZipLongestTrace, hint_greater, longest_rule}
 use Rattle.fallible_itertools_joins.specs.declared.pad_using.PadUsing.{PadUsing}
 use Rattle.fallible_itertools_joins.specs.declared.zip_longest.EitherOrBoth.{EitherOrBoth}
 use Rattle.fallible_itertools_joins.specs.declared.zip_longest.EitherOrBoth.TheVariants.{Both, Left, Right}
@@ -55,6 +56,7 @@ index_contract = record {
   hints = λ p h. h ≡ (p.1 - p.0, Some (p.1 - p.0));
   lenders = λ _. no_lenders;
   traces = IndexTrace;
+  sound = sound_always;
 }
 
 -- ---- the source beside them
@@ -91,12 +93,12 @@ module _ {F X E : Type 0} (g : Mut F (ℕ × Unit {0}) (Result X E)) where
   pad_takes f (Right i) = takes_by_value g f i
 
 -- `PadUsing`: the trace of `ZipLongest` of the source and the indices below n, where an item stands as it is, and what the closure returns for an index alone stands in its place. The parts are the source, fused, beside the index of the next item and n; and the closure.
-abbrev pub PadUsingTrace : {S F A E : Type 0} → Contract S A E → Mut F (ℕ × Unit {0}) (Result A E) → (Fuse S × (ℕ × ℕ)) × F → List (Answered A E) → (Fuse S × (ℕ × ℕ)) × F → Type 0
-PadUsingTrace m g p trace q = PassTrace (beside_index_contract m).steps (pad_call g) map_outcome p trace q
+abbrev pub PadUsingTrace : {S F A E : Type 0} → (S → List (Answered A E) → S → Type 0) → Mut F (ℕ × Unit {0}) (Result A E) → (S × (ℕ × ℕ)) × F → List (Answered A E) → (S × (ℕ × ℕ)) × F → Type 0
+PadUsingTrace traces g p trace q = passes_all (λ b made c. ZipLongestTrace traces IndexTrace (both_sides b) made (both_sides c)) (pad_call g) map_outcome p trace q
 
 -- `PadUsing`'s contract: the closure may be called on an index alone, and the hint is that of `ZipLongest` of the source and the indices.
 abbrev pub pad_using_contract : {S F A E : Type 0} → Contract S A E → Mut F (ℕ × Unit {0}) (Result A E) → Contract ((Fuse S × (ℕ × ℕ)) × F) A E
-pad_using_contract m g = passing_contract (beside_index_contract m) (pad_call g) (λ P f. IsCallable (pad_call g) (pad_takes g) P f) map_outcome (λ p h. (beside_index_contract m).hints p.0 h)
+pad_using_contract m g = record (passing_contract (beside_index_contract m) (pad_call g) (λ P f. IsCallable (pad_call g) (pad_takes g) P f) map_outcome (λ p h. (beside_index_contract m).hints p.0 h)) { traces = PadUsingTrace (fused_contract m).traces g; sound = as_source (λ p. p.0) (beside_index_contract m).sound }
 
 -- the source, fused
 abbrev pub pad_using_fused : {I F : Type 0} → PadUsing I F → Fuse I

@@ -12,6 +12,7 @@ use Rattle.fallible_iterator.specs.Cutting.Fuse.{fuse_contract, fuse_ended, fuse
 use Rattle.fallible_iterator.specs.Held.{held_count}
 use Rattle.fallible_iterator.specs.Hints.{hint_sum}
 use Rattle.fallible_iterator.specs.Folds.{DriveExit}
+use Rattle.fallible_iterator.specs.Sound.{SoundWhere, own_sound}
 use Rattle.fallible_iterator.specs.Fuse.{Fuse}
 use Rattle.std.specs.declared.ops.ControlFlow.{ControlFlow}
 use Rattle.std.specs.declared.ops.ControlFlow.TheVariants.{Continue, Break}
@@ -187,7 +188,7 @@ pub record Places (A B C E F X : Type 0) : Type 1 where
   pub gives : (A → Type 0) → (B → Type 0) → C → Type 0
   pub refuses : (A → Type 0) → (B → Type 0) → F → E → Type 0
 
--- the places of a rule
+-- The places of a rule. A failure of the left is returned, and the right isn't drawn. A failure of the right is returned, and the left's item is held, so that it stands at the next place too; an end of the left isn't held. Of an item or an end of each the rule makes the answer. Nothing is allocated, so no allocation fails.
 abbrev pub rule_places : {A B C E F V : Type 0} → Rule A B C E F V → Places A B C E F (SidesPlace A B E V)
 rule_places rule = record { left = left_gave; right = right_gave; left_after = left_held_after rule; right_after = right_held_after rule; decides = place_decides rule; answer = place_answer rule; askable = rule.askable; gives = rule.gives; refuses = rule.refuses }
 
@@ -235,10 +236,6 @@ module _ {S U A B C E F X : Type 0} (steps : S → Answered A E → S → Type 0
   places_step p r q = (x : X) × GivesIf steps p.0 (there.left x) q.0.0 × (q.0.1 ≡ there.left_after p.0.1 x) × GivesIf others p.1 (there.right x) q.1.0 × (q.1.1 ≡ there.right_after p.1.1 x) × there.decides p.2 x q.2 × (r ≡ there.answer x)
 
 module _ {S U A B C E F V : Type 0} (steps : S → Answered A E → S → Type 0) (others : U → Answered B E → U → Type 0) (rule : Rule A B C E F V) where
-  -- A failure of the left is returned, and the right isn't drawn. A failure of the right is returned, and the left's item is held, so that it stands at the next place too; an end of the left isn't held. Of an item or an end of each the rule makes the answer. Nothing is allocated, so no allocation fails.
-  abbrev pub SidesTrace : (S × Option A) × (U × Option B) × F → List (Answered C E) → (S × Option A) × (U × Option B) × F → Type 0
-  SidesTrace = PlacesTrace steps others (rule_places rule)
-
   -- one answer: that of one place
   abbrev pub sides_step : (S × Option A) × (U × Option B) × F → Answered C E → (S × Option A) × (U × Option B) × F → Type 0
   sides_step = places_step steps others (rule_places rule)
@@ -264,11 +261,16 @@ places_contract left right there hint = record {
   hints = λ p h. (g : ℕ × Option ℕ) × (k : ℕ × Option ℕ) × left.hints p.0.0 g × right.hints p.1.0 k × (h ≡ hint (side_hint p.0.1 g) (side_hint p.1.1 k));
   lenders = λ p. lenders_of_both (left.lenders p.0.0) (right.lenders p.1.0);
   traces = joins_all left.traces right.traces there;
+  sound = own_sound (places_step left.steps right.steps there);
 }
 
--- the contract of two sides by a rule
+-- A bound is as sound as those of both sides' hints that it is made of.
+abbrev pub as_made_of_sides : {S U A B E F : Type 0} → Contract S A E → Contract U B E → (ℕ × Option ℕ → ℕ × Option ℕ → ℕ × Option ℕ) → SoundWhere ((S × Option A) × (U × Option B) × F)
+as_made_of_sides left right hint = record { above = λ p high. (j : ℕ × Option ℕ) × (k : ℕ × Option ℕ) × left.hints p.0.0 j × right.hints p.1.0 k × (high ≡ (hint (side_hint p.0.1 j) (side_hint p.1.1 k)).1) × left.sound.above p.0.0 j.1 × right.sound.above p.1.0 k.1; below = λ p low. (j : ℕ × Option ℕ) × (k : ℕ × Option ℕ) × left.hints p.0.0 j × right.hints p.1.0 k × (low ≡ (hint (side_hint p.0.1 j) (side_hint p.1.1 k)).0) × left.sound.below p.0.0 j.0 × right.sound.below p.1.0 k.0 }
+
+-- the contract of two sides by a rule, whose hints are as sound as theirs
 abbrev pub sides_contract : {S U A B C E F V : Type 0} → Contract S A E → Contract U B E → Rule A B C E F V → (ℕ × Option ℕ → ℕ × Option ℕ → ℕ × Option ℕ) → Contract ((S × Option A) × (U × Option B) × F) C E
-sides_contract left right rule hint = places_contract left right (rule_places rule) hint
+sides_contract left right rule hint = record (places_contract left right (rule_places rule) hint) { sound = as_made_of_sides left right hint }
 
 -- ---- a join: of two items one is taken, or both
 

@@ -7,7 +7,7 @@ use Rattle.fallible_iterator.specs.Hints.{hint_smaller}
 use Rattle.fallible_iterator.specs.Sources.FromFn.{call_of_none}
 use Rattle.fallible_iterator.specs.Traces.{Answered, item, failure, end}
 use Rattle.fallible_iterator.specs.Fuse.{Fuse}
-use Rattle.fallible_itertools_joins.specs.Sides.{Rule, SidesTrace, fused_contract, fused_steps, sides_contract, side_parts}
+use Rattle.fallible_itertools_joins.specs.Sides.{Rule, fused_contract, joins_all, rule_places, sides_contract, side_parts}
 use Rattle.fallible_itertools_joins.specs.ZipLongest.{zipped_longest}
 use Rattle.fallible_itertools_joins.specs.declared.zip_eq.ZipEq.{ZipEq}
 use Rattle.fallible_itertools_joins.specs.declared.zip_longest.EitherOrBoth.{EitherOrBoth}
@@ -62,12 +62,12 @@ abbrev pub takes_none : {F E : Type 0} → Mut F (Unit {0}) E → F → Type 0
 takes_none g f = g.pre f tt
 
 -- `ZipEq`: the places of `ZipLongest`, where two items are a pair, and what the closure returns for an item alone is its failure.
-abbrev pub ZipEqTrace : {S U F A B E : Type 0} → (S → Answered A E → S → Type 0) → (U → Answered B E → U → Type 0) → Mut F (Unit {0}) E → (Fuse S × Option A) × (Fuse U × Option B) × F → List (Answered (A × B) E) → (Fuse S × Option A) × (Fuse U × Option B) × F → Type 0
-ZipEqTrace steps others g p trace q = SidesTrace (fused_steps steps) (fused_steps others) (pair_rule (call_of_none g) (takes_none g)) p trace q
+abbrev pub ZipEqTrace : {S U F A B E : Type 0} → (S → List (Answered A E) → S → Type 0) → (U → List (Answered B E) → U → Type 0) → Mut F (Unit {0}) E → (S × Option A) × (U × Option B) × F → List (Answered (A × B) E) → (S × Option A) × (U × Option B) × F → Type 0
+ZipEqTrace traces others g p trace q = joins_all traces others (rule_places (pair_rule (call_of_none g) (takes_none g))) p trace q
 
 -- `ZipEq`'s contract: its hint has the smaller bounds of both sides.
 abbrev pub zip_eq_contract : {S U F A B E : Type 0} → Contract S A E → Contract U B E → Mut F (Unit {0}) E → Contract ((Fuse S × Option A) × (Fuse U × Option B) × F) (A × B) E
-zip_eq_contract left right g = sides_contract (fused_contract left) (fused_contract right) (pair_rule (call_of_none g) (takes_none g)) hint_smaller
+zip_eq_contract left right g = record (sides_contract (fused_contract left) (fused_contract right) (pair_rule (call_of_none g) (takes_none g)) hint_smaller) { traces = ZipEqTrace (fused_contract left).traces (fused_contract right).traces g }
 
 -- ---- what it lists
 

@@ -4,7 +4,7 @@ use Rattle.std.specs.declared.cmp.Ordering.TheVariants.{Equal}
 use Rattle.fallible_iterator.specs.Traces.{Answered}
 use Rattle.fallible_iterator.specs.Contract.{Contract}
 use Rattle.fallible_iterator.specs.Fuse.{Fuse}
-use Rattle.fallible_itertools_joins.specs.Sides.{Join, OfEachSide, Rule, SidesTrace, fused_contract, fused_steps, sides_contract, side_parts, join_rule, taken_among}
+use Rattle.fallible_itertools_joins.specs.Sides.{Join, OfEachSide, Rule, fused_contract, joins_all, rule_places, sides_contract, side_parts, join_rule, taken_among}
 use Rattle.fallible_itertools_joins.specs.declared.zip_longest.EitherOrBoth.{EitherOrBoth}
 use Rattle.fallible_itertools_joins.specs.declared.zip_longest.EitherOrBoth.TheVariants.{Both, Left, Right}
 use Rattle.fallible_itertools_joins.specs.declared.zip_longest.ZipLongest.{ZipLongest}
@@ -59,8 +59,8 @@ abbrev pub longest_rule : {A B E : Type 0} → Rule A B (EitherOrBoth A B) E (Un
 longest_rule = join_rule longest_join
 
 -- `ZipLongest`: the trace of `MergeJoinBy`, where both items are yielded together without a call.
-abbrev pub ZipLongestTrace : {S U A B E : Type 0} → (S → Answered A E → S → Type 0) → (U → Answered B E → U → Type 0) → (Fuse S × Option A) × (Fuse U × Option B) × Unit {0} → List (Answered (EitherOrBoth A B) E) → (Fuse S × Option A) × (Fuse U × Option B) × Unit {0} → Type 0
-ZipLongestTrace steps others p trace q = SidesTrace (fused_steps steps) (fused_steps others) longest_rule p trace q
+abbrev pub ZipLongestTrace : {S U A B E : Type 0} → (S → List (Answered A E) → S → Type 0) → (U → List (Answered B E) → U → Type 0) → (S × Option A) × (U × Option B) × Unit {0} → List (Answered (EitherOrBoth A B) E) → (S × Option A) × (U × Option B) × Unit {0} → Type 0
+ZipLongestTrace traces others p trace q = joins_all traces others (rule_places longest_rule) p trace q
 
 -- the greater of two upper bounds, where both are known
 abbrev pub greater_bound : Option ℕ → Option ℕ → Option ℕ
@@ -74,7 +74,7 @@ hint_greater g k = (max g.0 k.0, greater_bound g.1 k.1)
 
 -- `ZipLongest`'s contract: its hint has the greater bounds of both sides.
 abbrev pub zip_longest_contract : {S U A B E : Type 0} → Contract S A E → Contract U B E → Contract ((Fuse S × Option A) × (Fuse U × Option B) × Unit {0}) (EitherOrBoth A B) E
-zip_longest_contract left right = sides_contract (fused_contract left) (fused_contract right) longest_rule hint_greater
+zip_longest_contract left right = record (sides_contract (fused_contract left) (fused_contract right) longest_rule hint_greater) { traces = ZipLongestTrace (fused_contract left).traces (fused_contract right).traces }
 
 -- ---- what it lists
 

@@ -4,6 +4,7 @@ use Rattle.std.proofs.Common.{arith}
 use Rattle.std.specs.Iterator.{size}
 use Rattle.fallible_iterator.specs.Traces.{Answered}
 use Rattle.fallible_iterator.specs.Contract.{Contract, KeptByDraw, Lawful}
+use Rattle.fallible_iterator.specs.Laws.Sound.{own_hold}
 use Rattle.fallible_itertools.specs.Parted.{EitherMayCome, parted_contract}
 use Rattle.fallible_itertools.specs.declared.partition_map.Either.{Either}
 use Rattle.fallible_itertools.specs.declared.partition_map.Either.TheVariants.{Left, Right}
@@ -42,4 +43,4 @@ module _ {S A E : Type 0} (m : Contract S A E) (l : Lawful m) where
   kept_by_draw_parted s (Err never) t can step = absurd step
 
 pub lawful_parted : {S A E : Type 0} {m : Contract S A E} → Lawful m → Lawful (parted_contract m)
-lawful_parted {m = m} l = record { kept_by_draw = kept_by_draw_parted m l; bounded = λ s. ((λ f. (size (m.remaining s), (f, omega arith))), (λ b. b.1.0)); traced = λ _ _ _. ((λ h. h), (λ h. h)) }
+lawful_parted {m = m} l = record { kept_by_draw = kept_by_draw_parted m l; bounded = λ s. ((λ f. (size (m.remaining s), (f, omega arith))), (λ b. b.1.0)); traced = λ _ _ _. ((λ h. h), (λ h. h)); hold = own_hold }

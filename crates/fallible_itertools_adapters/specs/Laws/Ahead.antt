@@ -2,6 +2,7 @@
 use Rattle.std.specs.Prelude.{List, Some, None, Ok, Err, Result}
 use Rattle.fallible_iterator.specs.Traces.{Answered}
 use Rattle.fallible_iterator.specs.Contract.{Contract, KeptByDraw, Lawful, OnAnswer}
+use Rattle.fallible_iterator.specs.Laws.Sound.{own_hold}
 use Rattle.fallible_itertools_adapters.specs.Ahead.{TakesMade, making}
 
 module _ {S P A E B F : Type 0} (view : S → P) (answers : List (Result A E) → List (Result B F)) (left : List (Result A E) → List (Result A E)) (m : Contract P A E) where
@@ -21,4 +22,4 @@ module _ {S P A E B F : Type 0} (view : S → P) (answers : List (Result A E) �
   }
 
 pub lawful_making : {S P A E B F : Type 0} {m : Contract P A E} (view : S → P) (answers : List (Result A E) → List (Result B F)) (left : List (Result A E) → List (Result A E)) → Lawful m → Lawful (making view answers left m)
-lawful_making {m = m} view answers left l = record { kept_by_draw = λ s r t c h. kept_by_draw_made view answers left m s t r c.1 h; bounded = λ s. l.bounded (view s); traced = λ _ _ _. ((λ h. h), (λ h. h)) }
+lawful_making {m = m} view answers left l = record { kept_by_draw = λ s r t c h. kept_by_draw_made view answers left m s t r c.1 h; bounded = λ s. l.bounded (view s); traced = λ _ _ _. ((λ h. h), (λ h. h)); hold = own_hold }

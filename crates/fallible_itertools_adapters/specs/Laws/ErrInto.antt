@@ -18,7 +18,7 @@ module _ {D E : Type 0} (from : D → E → Type 0) where
     kept_by_draw_converted m l p r q can step = let k = l.kept_by_draw p r q (can, convert_call_is_callable) step in record { can_next = k.can_next.0; is_finite = k.is_finite; answer = k.answer; may_give = k.may_give; may_fail = k.may_fail; lenders = k.lenders }
 
     pub lawful_err_into : {m : Contract S X D} → Lawful m → Lawful (err_into_contract from m)
-    lawful_err_into {m = m} l = let f = lawful_failing (convert_call from) (λ u d. ⊤) l in record { kept_by_draw = kept_by_draw_converted m f; bounded = f.bounded; traced = f.traced }
+    lawful_err_into {m = m} l = let f = lawful_failing (convert_call from) (λ u d. ⊤) l in record { kept_by_draw = kept_by_draw_converted m f; bounded = f.bounded; traced = f.traced; hold = f.hold }
 
     pub lawful_ends_err_into : {m : Contract S X D} {e : Ends S X D} → LawfulEnds m e → LawfulEnds (err_into_contract from m) (ends_of (err_into_contract from (from_back m e)))
     lawful_ends_err_into l = let f = lawful_ends_failing (convert_call from) (λ u d. ⊤) l in record {

@@ -13,6 +13,7 @@ use Rattle.fallible_iterator.specs.Hints.{upper_alone}
 use Rattle.fallible_iterator.specs.Laws.Closures.{is_callable_after, may_answer_where_reached_may_answer, reaches_by_call_first, reaches_reflexive}
 use Rattle.fallible_iterator.specs.Laws.Passing.{lawful_passing, pass_trace_item, pass_trace_refusal, pass_trace_end, pass_trace_failure}
 use Rattle.fallible_iterator.specs.Laws.Peeking.Peekable.{lawful_peekable}
+use Rattle.fallible_iterator.specs.Laws.Sound.{own_hold}
 use Rattle.fallible_iterator.specs.Cutting.TakeWhile.{taken_answer, take_while_outcome}
 use Rattle.fallible_iterator.specs.Peeking.Peekable.{Peeks, peekable_contract, peekable_parts, peekable_step}
 use Rattle.fallible_itertools_adapters.specs.PeekingTakeWhile.{DrawsAtPlace, LooksAhead, borrowed_looks, peekable_looks, peeking_contract}
@@ -177,4 +178,4 @@ module _ {S F X E : Type 0} (m : Contract S X E) (l : Lawful m) (looks : S → X
   kept_by_draw_peeking p r q c w = subst (λ (a : Answered X E). KeptByDraw PeekingHere p a q) (sym w.3) (kept_by_draw_place w.0 p.0 q.0 p.1 q.1 c w.1 w.2)
 
 pub lawful_peeking : {S F X E : Type 0} {m : Contract S X E} {looks : S → X → S → Type 0} (g : Mut F (Bor X × Unit {0}) (Result Bool E)) → Lawful m → LooksAhead m looks → Lawful (peeking_contract m looks g)
-lawful_peeking {m = m} {looks = looks} g l k = record { kept_by_draw = λ p r q c w. kept_by_draw_peeking m l looks k g p r q c w; bounded = λ p. l.bounded p.0; traced = peeking_traced k (call_by_reference g) l.traced }
+lawful_peeking {m = m} {looks = looks} g l k = record { kept_by_draw = λ p r q c w. kept_by_draw_peeking m l looks k g p r q c w; bounded = λ p. l.bounded p.0; traced = peeking_traced k (call_by_reference g) l.traced; hold = own_hold }

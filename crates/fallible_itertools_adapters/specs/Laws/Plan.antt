@@ -92,6 +92,7 @@ lawful_bounded {m = m} l = record {
   kept_by_draw = λ s r t c step. let k = l.kept_by_draw s r t c.1 step in record { can_next = (k.is_finite c.0, k.can_next); is_finite = k.is_finite; answer = k.answer; may_give = k.may_give; may_fail = k.may_fail; lenders = k.lenders };
   bounded = l.bounded;
   traced = l.traced;
+  hold = l.hold;
 }
 
 module _ {S H F Q R X B L E : Type 0} {m : Contract S X E} (l : Lawful m) (comes : L → Option (Answered B E)) (call : F → Q → R → F → Type 0) (plan : H → X → Plan Q R (Transition H B L E)) (stops : H → Option E → Transition H B L E) (most : ℕ) (held : H → ℕ) (hint : H → Option L → HintPlan) (is : IsStage comes (plan_meets call plan stops) most (λ (p : H × F). held p.0)) where

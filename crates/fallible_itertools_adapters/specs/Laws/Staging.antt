@@ -8,6 +8,7 @@ use Rattle.fallible_iterator.specs.Traces.{Answered, item, failure}
 use Rattle.fallible_iterator.specs.Contract.{Contract, OnAnswer, KeptByDraw, KeptByDraws, Lawful}
 use Rattle.fallible_iterator.specs.Closures.{Reaches, MayAnswer}
 use Rattle.fallible_iterator.specs.Laws.Contract.{kept_by_draws_of_one_draw, kept_by_draws_transitive}
+use Rattle.fallible_iterator.specs.Laws.Sound.{own_hold}
 use Rattle.fallible_iterator.specs.Laws.Closures.{reaches_reflexive, reaches_weaken, reaches_by_call_first, may_answer_of_call, may_answer_where_reached_may_answer}
 use Rattle.fallible_itertools_adapters.specs.Staging.{Emitted, DrawsUpTo, yields, passes_over, due_comes, due_left, items_of, stays_of, due_total, emitted_total, IsStage, IsDue, IsEmitted, MayMeet, MayCome, stage_contract}
 use Rattle.fallible_itertools_adapters.specs.Laws.Staged.{stage_traced}
@@ -149,6 +150,7 @@ module _ {S P X D B L E : Type 0} {m : Contract S X D} (l : Lawful m) (comes : L
     kept_by_draw = kept_by_draw_stage;
     bounded = λ p. ((λ e. let k = (l.bounded p.0).0 e in (most * k.0 + held p.1.0 + due_total comes items_of p.1.1, (k.0, k.1, omega arith))), (λ h. (l.bounded p.0).1 ((h.1).0, (h.1).1)));
     traced = stage_traced comes meets m.steps l.traced;
+    hold = own_hold;
   }
 
 -- ---- what holds in each state

@@ -8,6 +8,7 @@ use Rattle.fallible_iterator.specs.Exchange.{exchanged, steps_exchanged}
 use Rattle.fallible_iterator.specs.Laws.Cutting.Take.{take_traced}
 use Rattle.fallible_iterator.specs.Laws.Exchange.{exchanged_traced, exchanged_twice}
 use Rattle.fallible_iterator.specs.Laws.LawForm.{IsTraced}
+use Rattle.fallible_iterator.specs.Laws.Sound.{own_hold}
 use Rattle.fallible_itertools_adapters.specs.StopAfter.{stop_after_contract, stop_after_step, stops_after_all}
 
 module _ {S A E : Type 0} (m : Contract S A E) where
@@ -81,4 +82,4 @@ module _ {S A E : Type 0} (steps : S → Answered A E → S → Type 0) where
       ((λ h. let k = take_run_of_stop_after_run trace p q h in (both.0 k.0, k.1)), (λ d. stop_after_run_of_take_run trace p q (both.1 d.0) d.1))
 
 pub lawful_stop_after : {S A E : Type 0} {m : Contract S A E} → Lawful m → Lawful (stop_after_contract m)
-lawful_stop_after {m = m} l = record { kept_by_draw = kept_by_draw_stop_after m l; bounded = λ p. l.bounded p.0; traced = stop_after_traced m.steps l.traced }
+lawful_stop_after {m = m} l = record { kept_by_draw = kept_by_draw_stop_after m l; bounded = λ p. l.bounded p.0; traced = stop_after_traced m.steps l.traced; hold = own_hold }

@@ -1,22 +1,18 @@
--- What `Interleave` lists, its whole traces, and that its hints are sound.
-use Rattle.std.specs.Prelude.{ℕ, zero, suc, ◌≡◌, ◌+◌, ◌≤◌, Bool, true, false, not, List, [], ◌∷◌, ◌++◌, None, Some, Option, Result, Ok, Err, drop, length, zip}
+-- What `Interleave` lists.
+use Rattle.std.specs.Prelude.{ℕ, zero, suc, ◌≡◌, Bool, true, false, not, List, [], ◌∷◌, ◌++◌, None, Result, Ok, Err, drop, length, zip}
 use Rattle.std.specs.List.{flat_map}
-use Rattle.std.proofs.Common.{refl, sym, ap, subst, ◌∙◌, arith, inl}
+use Rattle.std.proofs.Common.{refl, sym, ap, subst, ◌∙◌}
 use Rattle.fallible_iterator.specs.Contract.{Contract, seen_as}
 use Rattle.fallible_iterator.specs.Cutting.Fuse.{fuse_parts}
-use Rattle.fallible_iterator.specs.Hints.{hint_sum}
 use Rattle.fallible_iterator.specs.Lists.{GivesForGood, Lists, result_answer, ListsForGood}
-use Rattle.fallible_iterator.specs.SoundHints.{AsSoundAsBoth}
-use Rattle.fallible_iterator.specs.Traces.{Answered, Yields, item, end}
+use Rattle.fallible_iterator.specs.Traces.{Answered, end}
 use Rattle.fallible_iterator.specs.Fuse.{Fuse}
-use Rattle.fallible_iterator.proofs.Lemmas.Hints.Drawn.{if_some_at_least_of_smaller}
-use Rattle.fallible_iterator.proofs.Lemmas.Hints.Joining.{if_some_fitting_sum_at_least_both}
 use Rattle.fallible_iterator.proofs.Lemmas.Lists.ForGood.{lists_once, lists_for_good_seen}
 use Rattle.fallible_iterator.specs.Interleaved.{Interleaved, interleaved_nil, of_first, of_second}
 use Rattle.fallible_itertools_joins.specs.Interleave.{Turn, by_itself, by_other, interleave_contract, interleave_parts, interleaved, turn_answer, turn_gave, turn_sides, turns}
 use Rattle.fallible_itertools_joins.specs.Sides.{GivesIf, fused_steps, places_step}
 use Rattle.fallible_itertools_joins.specs.declared.interleave.Interleave.{Interleave}
-use Rattle.fallible_itertools_joins.proofs.Lemmas.Sides.{NoItemAfterEnd, ItemsCome, ItemsThenEnd, first_answer, answers_first_where_gives_for_good, gives_for_good_of_fresh, gives_for_good_where_each_answers_first, items_come_before_draw, items_then_end_from, items_then_end_none_from, rest_of, side_hint_above, side_hint_below}
+use Rattle.fallible_itertools_joins.proofs.Lemmas.Sides.{first_answer, answers_first_where_gives_for_good, gives_for_good_of_fresh, gives_for_good_where_each_answers_first, rest_of}
 
 -- ---- the list
 
@@ -106,81 +102,3 @@ module _ {S U A E : Type 0} (left : Contract S A E) (right : Contract U A E) (c 
 
   pub lists_interleaved : interleave_parts c ≡ (p, q, false) → fuse_parts p ≡ (s, false) → fuse_parts q ≡ (u, false) → Lists left.steps s a → Lists right.steps u b → Lists (seen_as interleave_parts (interleave_contract left right)).steps c (interleaved a b)
   lists_interleaved parts fresh also i k = lists_once _ (lists_for_good_interleaved parts fresh also i k)
-
--- ---- hints
-
--- how many items of an item's turn are of the side: of the one whose turn it is, or of the other
-abbrev taken : {A E : Type 0} → Bool → Turn A E → ℕ
-taken false (by_itself y) = 1
-taken false (by_other r) = 0
-taken true (by_itself y) = 0
-taken true (by_other r) = 1
-
-taken_of_both_sides_is_one : {A E : Type 0} (b : Bool) (x : Turn A E) → taken b x + taken (not b) x ≡ 1
-taken_of_both_sides_is_one false (by_itself y) = refl
-taken_of_both_sides_is_one false (by_other r) = refl
-taken_of_both_sides_is_one true (by_itself y) = refl
-taken_of_both_sides_is_one true (by_other r) = refl
-
-module _ {S A E : Type 0} (steps : S → Answered A E → S → Type 0) where
-  items_come_at_turn : NoItemAfterEnd steps → (b : Bool) (x : Turn A E) (z : A) (s t : S) (n : ℕ) → turn_answer x ≡ item z → GivesIf steps (s, None) (turn_gave b x) t → ItemsCome steps (t, None) n → ItemsCome steps (s, None) (taken b x + n)
-  items_come_at_turn once false (by_itself (Ok y)) z s t n is g d = (items_come_before_draw steps once (s, None) t (Some y) None n (inl refl) g d).0
-  items_come_at_turn once false (by_itself (Err e)) z s t n is g d = absurd cc
-  items_come_at_turn once false (by_other r) z s t n is g d = (items_come_before_draw steps once (s, None) t None None n (inl refl) g d).0
-  items_come_at_turn once true (by_itself y) z s t n is g d = let same : n ≡ 0 + n = omega arith in subst (λ (k : ℕ). ItemsCome steps (s, None) k) same (subst (λ (u : S). ItemsCome steps (u, None) n) g d)
-  items_come_at_turn once true (by_other r) z s t n is g d = (items_come_before_draw steps once (s, None) t (Some z) None n (inl refl) (subst (λ (a : Answered A E). steps s a t) is g) d).0
-
-  items_end_at_turn : (b : Bool) (x : Turn A E) (z : A) (s t : S) (n : ℕ) → turn_answer x ≡ item z → GivesIf steps (s, None) (turn_gave b x) t → ItemsThenEnd steps (t, None) n → ItemsThenEnd steps (s, None) (taken b x + n)
-  items_end_at_turn false (by_itself (Ok y)) z s t n is g d = items_then_end_from steps (s, None) t (Some y) None n (inl refl) g d
-  items_end_at_turn false (by_itself (Err e)) z s t n is g d = absurd cc
-  items_end_at_turn false (by_other r) z s t n is g d = items_then_end_from steps (s, None) t None None n (inl refl) g d
-  items_end_at_turn true (by_itself y) z s t n is g d = let same : n ≡ 0 + n = omega arith in subst (λ (k : ℕ). ItemsThenEnd steps (s, None) k) same (subst (λ (u : S). ItemsThenEnd steps (u, None) n) g d)
-  items_end_at_turn true (by_other r) z s t n is g d = items_then_end_from steps (s, None) t (Some z) None n (inl refl) (subst (λ (a : Answered A E). steps s a t) is g) d
-
-  -- at an end of both, each side ended
-  ended_at_turn : (b : Bool) (x : Turn A E) (s t : S) → turn_answer x ≡ end → GivesIf steps (s, None) (turn_gave b x) t → ItemsThenEnd steps (s, None) 0
-  ended_at_turn b (by_itself y) s t is g = absurd (result_is_no_end y is)
-  ended_at_turn false (by_other r) s t is g = items_then_end_none_from steps (s, None) t g
-  ended_at_turn true (by_other r) s t is g = items_then_end_none_from steps (s, None) t (subst (λ (a : Answered A E). steps s a t) is g)
-
-module _ {S U A E : Type 0} (steps : S → Answered A E → S → Type 0) (others : U → Answered A E → U → Type 0) where
-  abbrev StepHere : S × U × Bool → Answered A E → S × U × Bool → Type 0
-  StepHere = TurnStep steps others
-
-  -- items come of both sides, n together at least
-  abbrev BothCome : S × U × Bool → ℕ → Type 0
-  BothCome p n = (i : ℕ) × (j : ℕ) × ItemsCome steps (p.0, None) i × ItemsCome others (p.1, None) j × (n ≤ i + j)
-
-  both_come_in_turn : NoItemAfterEnd steps → NoItemAfterEnd others → (zs : List A) (p q : S × U × Bool) → Yields StepHere p zs q → BothCome p (length zs)
-  both_come_in_turn once also [] p q ran = (0, 0, record { came = []; left = p.0; ran = refl; many = omega arith }, record { came = []; left = p.1; ran = refl; many = omega arith }, omega arith)
-  both_come_in_turn once also (z ∷ zs) p q ran =
-      let m = ran.0 in
-      let w = ran.1 in
-      let d = both_come_in_turn once also zs m q ran.2 in
-      (taken w.0.0 w.0.1 + d.0, taken (not w.0.0) w.0.1 + d.1, items_come_at_turn steps once w.0.0 w.0.1 z p.0 m.0 d.0 (sym w.6) w.1 d.2, items_come_at_turn others also (not w.0.0) w.0.1 z p.1 m.1 d.1 (sym w.6) w.3 d.3, omega (arith, taken_of_both_sides_is_one w.0.0 w.0.1, d.4))
-
-  -- items and then an end come of both sides, n together at most
-  abbrev BothEnd : S × U × Bool → ℕ → Type 0
-  BothEnd p n = (i : ℕ) × (j : ℕ) × ItemsThenEnd steps (p.0, None) i × ItemsThenEnd others (p.1, None) j × (i + j ≤ n)
-
-  both_end_in_turn : (zs : List A) (p q r : S × U × Bool) → Yields StepHere p zs q → StepHere q end r → BothEnd p (length zs)
-  both_end_in_turn [] p q r ran w = let e = sym w.6 in subst (λ (z : S × U × Bool). BothEnd z 0) (sym ran) (0, 0, ended_at_turn steps w.0.0 w.0.1 q.0 r.0 e w.1, ended_at_turn others (not w.0.0) w.0.1 q.1 r.1 e w.3, omega arith)
-  both_end_in_turn (z ∷ zs) p q r ran w =
-      let m = ran.0 in
-      let x = ran.1 in
-      let d = both_end_in_turn zs m q r ran.2 w in
-      (taken x.0.0 x.0.1 + d.0, taken (not x.0.0) x.0.1 + d.1, items_end_at_turn steps x.0.0 x.0.1 z p.0 m.0 d.0 (sym x.6) x.1 d.2, items_end_at_turn others (not x.0.0) x.0.1 z p.1 m.1 d.1 (sym x.6) x.3 d.3, omega (arith, taken_of_both_sides_is_one x.0.0 x.0.1, d.4))
-
-  pub as_sound_as_both_interleave : NoItemAfterEnd steps → NoItemAfterEnd others → (p : S × U × Bool) (h g k : ℕ × Option ℕ) → h ≡ hint_sum g k → AsSoundAsBoth StepHere p h steps p.0 g others p.1 k
-  as_sound_as_both_interleave once also p h g k is = rw is (record {
-    above = λ i j zs q ran.
-        let b = both_come_in_turn once also zs p q ran in
-        let high = side_hint_above {A = A} None g b.0 _ b.2.many (i b.2.came b.2.left b.2.ran) in
-        let more = side_hint_above {A = A} None k b.1 _ b.3.many (j b.3.came b.3.left b.3.ran) in
-        if_some_at_least_of_smaller (hint_sum g k).1 _ (b.0 + b.1) b.4 (if_some_fitting_sum_at_least_both g.1 k.1 b.0 b.1 _ refl high more);
-    below = λ i j zs q r ran w.
-        let b = both_end_in_turn zs p q r ran w in
-        let low = side_hint_below {A = A} None g b.0 _ (i b.2.came b.2.left b.2.last b.2.ran b.2.ended) b.2.few in
-        let more = side_hint_below {A = A} None k b.1 _ (j b.3.came b.3.left b.3.last b.3.ran b.3.ended) b.3.few in
-        omega (arith, low, more, b.4);
-  })

@@ -1,30 +1,26 @@
--- What `PadUsing` lists, that its closure may be called, and its hint.
-use Rattle.std.specs.Prelude.{◌≡◌, ℕ, zero, suc, ◌+◌, ◌-◌, ◌<◌, ◌≤◌, false, max, Option, Some, Result, Ok, Err, List, [], ◌∷◌, ◌++◌, length, map}
+-- What `PadUsing` lists, and that its closure may be called.
+use Rattle.std.specs.Prelude.{◌≡◌, ℕ, zero, suc, ◌+◌, ◌-◌, false, max, Result, Ok, Err, List, [], ◌∷◌, ◌++◌, length, map}
 use Rattle.std.specs.List.{FoldsTo}
 use Rattle.std.specs.Fn.{Mut}
 use Rattle.std.proofs.Common.{refl, sym, ap, subst, ◌∙◌, arith, inl, inr, length-append}
 use Rattle.fallible_iterator.specs.BothEnds.{failures_listed, items_listed}
-use Rattle.fallible_iterator.specs.Traces.{Answered, Yields, failure, item, end}
+use Rattle.fallible_iterator.specs.Traces.{Answered, failure, item, end}
 use Rattle.fallible_iterator.specs.Closures.{IsCallable, Reaches, call_by_value, takes_by_value}
 use Rattle.fallible_iterator.specs.Contract.{Contract, parts_as}
 use Rattle.fallible_iterator.specs.Cutting.Fuse.{fuse_parts}
 use Rattle.fallible_iterator.specs.Lists.{Acts, GivesForGood, Lists, ListsForGood, result_answer}
 use Rattle.fallible_iterator.specs.OneToOne.Map.{map_outcome, mapped}
-use Rattle.fallible_iterator.specs.SoundHints.{Brackets, HintsAsSoundAs}
 use Rattle.fallible_iterator.specs.Laws.Closures.{reaches_by_call_first, reaches_reflexive}
-use Rattle.fallible_iterator.proofs.Lemmas.Hints.Drawn.{as_sound_as_both_seen, as_sound_where_one_of_one, as_sound_seen}
-use Rattle.fallible_iterator.proofs.Lemmas.Hints.Passing.{one_of_one_passing}
 use Rattle.fallible_iterator.specs.Outcome.TheVariants.{Kept, LeftOut, Failure, End}
 use Rattle.fallible_iterator.specs.Passing.{passing_step}
 use Rattle.fallible_iterator.specs.Laws.Passing.{Passes, done, end_passes, failure_passes, keeps, refuses, closes, leaves_out, passes_of_pass_trace}
 use Rattle.fallible_iterator.proofs.Lemmas.Lists.ForGood.{gives_for_good_seen, lists_for_good_seen, lists_once}
-use Rattle.fallible_iterator.proofs.Lemmas.OneToOne.Map.{leaves_none_out_of_map, map_outcome_is_never_end}
 use Rattle.fallible_itertools_joins.specs.Laws.ZipLongest.{is_lawful_rule_longest}
-use Rattle.fallible_itertools_joins.specs.PadUsing.{beside_index_contract, both_sides, from_index, index_step, pad_call, pad_takes, pad_using_contract, pad_using_fused, pad_using_parts, padded}
-use Rattle.fallible_itertools_joins.specs.Sides.{fused_contract, fused_steps}
+use Rattle.fallible_itertools_joins.specs.PadUsing.{beside_index_contract, both_sides, from_index, index_step, pad_call, pad_takes, pad_using_contract, pad_using_parts, padded}
+use Rattle.fallible_itertools_joins.specs.Sides.{fused_steps}
 use Rattle.fallible_itertools_joins.specs.ZipLongest.{longest_rule, right_alone, zipped_longest}
-use Rattle.fallible_itertools_joins.proofs.Lemmas.Sides.{NoItemAfterEnd, no_item_after_end_of_fused, answers_first_where_gives_for_good, first_answer, gives_for_good_of_fresh, gives_for_good_where_each_answers_first, gives_for_good_sides, rest_of}
-use Rattle.fallible_itertools_joins.proofs.Lemmas.ZipLongest.{as_sound_as_both_zip_longest, lists_by_longest}
+use Rattle.fallible_itertools_joins.proofs.Lemmas.Sides.{answers_first_where_gives_for_good, first_answer, gives_for_good_of_fresh, gives_for_good_where_each_answers_first, gives_for_good_sides, rest_of}
+use Rattle.fallible_itertools_joins.proofs.Lemmas.ZipLongest.{lists_by_longest}
 use Rattle.fallible_itertools_joins.specs.declared.pad_using.PadUsing.{PadUsing}
 use Rattle.fallible_itertools_joins.specs.declared.zip_longest.EitherOrBoth.{EitherOrBoth}
 use Rattle.fallible_itertools_joins.specs.declared.zip_longest.EitherOrBoth.TheVariants.{Both, Left, Right}
@@ -49,26 +45,6 @@ module _ (E : Type 0) where
 
   gives_indices : (p : ℕ × ℕ) → GivesForGood IndexSteps p (indices_left p)
   gives_indices p = gives_for_good_where_each_answers_first IndexSteps (λ q l. l ≡ indices_left q) (λ s t r l is w. index_step_answers_first s t r l is w) (indices_left p) p refl
-
-  end_past_indices : (p q : ℕ × ℕ) → IndexSteps p end q → (p.1 ≤ p.0) × (q ≡ p)
-  end_past_indices p q step = elim step [ inl d ↦ absurd (let no = d.1 in cc) | inr d ↦ (d.0, d.2) ]
-
-  item_within_indices_advances : (p q : ℕ × ℕ) (i : ℕ) → IndexSteps p (item i) q → (p.0 < p.1) × (q ≡ (suc p.0, p.1))
-  item_within_indices_advances p q i step = elim step [ inl d ↦ (d.0, d.2) | inr d ↦ absurd (let no = d.1 in cc) ]
-
-  no_item_after_end_of_indices : NoItemAfterEnd IndexSteps
-  no_item_after_end_of_indices p q r i w v = let e = end_past_indices p q w in let d = item_within_indices_advances q r i v in let same : q ≡ p = e.1 in let few = e.0 in let some : p.0 < p.1 = subst (λ (z : ℕ × ℕ). z.0 < z.1) same d.0 in omega (arith, few, some)
-
-  -- each item is one of those that are left
-  indices_left_after : (xs : List ℕ) (p q : ℕ × ℕ) → Yields IndexSteps p xs q → p.1 - p.0 ≡ length xs + (q.1 - q.0)
-  indices_left_after [] p q ran = let same : p.1 - p.0 ≡ q.1 - q.0 = ap (λ (z : ℕ × ℕ). z.1 - z.0) ran in omega (arith, same)
-  indices_left_after (x ∷ xs) p q ran = let d = item_within_indices_advances p ran.0 x ran.1 in let rest = indices_left_after xs ran.0 q ran.2 in let one : ran.0.1 - ran.0.0 ≡ p.1 - suc p.0 = ap (λ (z : ℕ × ℕ). z.1 - z.0) d.1 in let some = d.0 in omega (arith, rest, one, some)
-
-  brackets_indices : (p : ℕ × ℕ) → Brackets IndexSteps p (p.1 - p.0, Some (p.1 - p.0))
-  brackets_indices p = record {
-    above = λ xs q ran. let d = indices_left_after xs p q ran in omega (arith, d);
-    below = λ xs q u ran step. let d = indices_left_after xs p q ran in let few = (end_past_indices q u step).0 in omega (arith, d, few);
-  }
 
 -- ---- calls of the closure
 
@@ -201,16 +177,6 @@ lists_for_good_padded {E = E} {p = p} m g s f n it h l parts fresh acts i =
 
 pub lists_padded : {S F A E : Type 0} {p : Fuse S} (m : Contract S A E) (g : Mut F (ℕ × Unit {0}) (Result A E)) (s : PadUsing S F) (f : F) (n : ℕ) (it : S) (h : ℕ → Result A E) (l : List (Result A E)) → pad_using_parts s ≡ ((p, (0, n)), f) → fuse_parts p ≡ (it, false) → Acts (call_by_value g) f h → Lists m.steps it l → Lists (parts_as pad_using_parts (pad_using_contract m g)).steps s (padded n h l)
 lists_padded m g s f n it h l parts fresh acts i = lists_once _ (lists_for_good_padded m g s f n it h l parts fresh acts i)
-
--- ---- its hint
-
-pub hints_as_sound_pad_using : {S F A E : Type 0} (m : Contract S A E) (g : Mut F (ℕ × Unit {0}) (Result A E)) (s : PadUsing S F) → HintsAsSoundAs (parts_as pad_using_parts (pad_using_contract m g)) s (fused_contract m) (pad_using_fused s)
-hints_as_sound_pad_using {E = E} m g s h is =
-    let p = pad_using_parts s in
-    let both = as_sound_as_both_seen both_sides _ p.0 h (as_sound_as_both_zip_longest (fused_steps m.steps) (IndexSteps E) (no_item_after_end_of_fused m.steps) (no_item_after_end_of_indices E) (both_sides p.0) h is.0 is.1 is.4) in
-    let right : Brackets (IndexSteps E) p.0.1 is.1 = subst (λ (k : ℕ × Option ℕ). Brackets (IndexSteps E) p.0.1 k) (sym is.3) (brackets_indices E p.0.1) in
-    let through = as_sound_seen pad_using_parts _ s h (as_sound_where_one_of_one _ _ _ _ (one_of_one_passing (beside_index_contract m).steps (pad_call g) map_outcome leaves_none_out_of_map map_outcome_is_never_end) p tt h) in
-    (is.0, is.2, record { above = λ a. through.above (both.above a right.above); below = λ b. through.below (both.below b right.below) })
 
 -- ---- how long it is
 

@@ -1,17 +1,21 @@
 -- The contract of `PadUsing` is lawful where the source's is.
-use Rattle.std.specs.Prelude.{◌≡◌, ℕ, zero, suc, ◌+◌, ◌-◌, ◌<◌, ◌≤◌, List, [], ◌∷◌, ◌++◌, replicate, Option, Some, None, Ok, Err, Result}
+use Rattle.std.specs.Prelude.{◌≡◌, ℕ, zero, suc, ◌+◌, ◌-◌, ◌<◌, ◌≤◌, length, List, [], ◌∷◌, ◌++◌, replicate, Option, Some, None, Ok, Err, Result}
 use Rattle.std.specs.Fn.{Mut}
 use Rattle.std.proofs.Common.{arith, refl, sym, ap, subst, ◌∙◌, inl, inr}
-use Rattle.fallible_iterator.specs.Traces.{Answered, Run, item, failure, end}
+use Rattle.fallible_iterator.specs.Traces.{Answered, Run, Yields, item, failure, end}
 use Rattle.fallible_iterator.specs.Closures.{IsCallable}
 use Rattle.fallible_iterator.specs.Contract.{Contract, KeptByDraw, Lawful}
 use Rattle.fallible_iterator.specs.Laws.Closures.{is_callable_after}
 use Rattle.fallible_iterator.specs.Laws.LawForm.{IsTraced}
 use Rattle.fallible_iterator.specs.Laws.Passing.{lawful_passing}
+use Rattle.fallible_iterator.specs.Laws.Contract.{lawful_with_sound}
+use Rattle.fallible_iterator.specs.Laws.Hints.Passing.{map_hold}
+use Rattle.fallible_iterator.specs.Sound.{HintsHold, sound_always}
 use Rattle.fallible_iterator.specs.OneToOne.Map.{map_outcome}
 use Rattle.fallible_itertools_joins.specs.Laws.OverTraces.{InverseWhere, lawful_parts_where}
-use Rattle.fallible_itertools_joins.specs.Laws.Sides.{lawful_fused, lawful_sides}
-use Rattle.fallible_itertools_joins.specs.Laws.ZipLongest.{is_lawful_rule_longest, left_not_held, right_not_held}
+use Rattle.fallible_itertools_joins.specs.Laws.Sides.{lawful_fused}
+use Rattle.fallible_itertools_joins.specs.Laws.SidesHints.{NoItemAfterEnd, lawful_sides, no_item_after_end_of_fused}
+use Rattle.fallible_itertools_joins.specs.Laws.ZipLongest.{counts_longest, is_lawful_rule_longest, left_not_held, right_not_held}
 use Rattle.fallible_itertools_joins.specs.PadUsing.{BothFree, IndexTrace, beside_index_contract, both_sides, from_index, index_contract, index_step, pad_call, pad_takes, pad_using_contract}
 use Rattle.fallible_itertools_joins.specs.Sides.{GivesIf, SidesPlace, left_failed, right_failed, both_gave, right_gave, left_held_after, right_held_after, fused_contract, sides_step}
 use Rattle.fallible_itertools_joins.specs.ZipLongest.{hint_greater, longest_rule}
@@ -22,6 +26,32 @@ module _ (E : Type 0) where
   run_of_indices zero zero (i, n) q within over left = let same : i + 0 ≡ i = omega arith in sym (subst (λ (j : ℕ). q ≡ (j, n)) same left)
   run_of_indices zero (suc ends) (i, n) q within over left = let none = over (omega arith) in ((i, n), inr (omega (arith, none), refl, refl), run_of_indices zero ends (i, n) q within (λ h. none) left)
   run_of_indices (suc count) ends (i, n) q within over left = let on : i + suc count ≡ suc i + count = omega arith in ((suc i, n), inl (omega (arith, within), refl, refl), run_of_indices count ends (suc i, n) q (omega (arith, within)) (λ h. let k = over h in omega (arith, k)) (subst (λ (j : ℕ). q ≡ (j, n)) on left))
+
+-- ---- the hint of the indices
+
+module _ (E : Type 0) where
+  abbrev IndexSteps : ℕ × ℕ → Answered ℕ E → ℕ × ℕ → Type 0
+  IndexSteps p r q = index_step p r q
+
+  end_past_indices : (p q : ℕ × ℕ) → IndexSteps p end q → (p.1 ≤ p.0) × (q ≡ p)
+  end_past_indices p q step = elim step [ inl d ↦ absurd (let no = d.1 in cc) | inr d ↦ (d.0, d.2) ]
+
+  item_within_indices_advances : (p q : ℕ × ℕ) (i : ℕ) → IndexSteps p (item i) q → (p.0 < p.1) × (q ≡ (suc p.0, p.1))
+  item_within_indices_advances p q i step = elim step [ inl d ↦ (d.0, d.2) | inr d ↦ absurd (let no = d.1 in cc) ]
+
+  no_item_after_end_of_indices : NoItemAfterEnd IndexSteps
+  no_item_after_end_of_indices p q r i w v = let e = end_past_indices p q w in let d = item_within_indices_advances q r i v in let same : q ≡ p = e.1 in let few = e.0 in let some : p.0 < p.1 = subst (λ (z : ℕ × ℕ). z.0 < z.1) same d.0 in omega (arith, few, some)
+
+  -- each item is one of those that are left
+  indices_left_after : (xs : List ℕ) (p q : ℕ × ℕ) → Yields IndexSteps p xs q → p.1 - p.0 ≡ length xs + (q.1 - q.0)
+  indices_left_after [] p q ran = let same : p.1 - p.0 ≡ q.1 - q.0 = ap (λ (z : ℕ × ℕ). z.1 - z.0) ran in omega (arith, same)
+  indices_left_after (x ∷ xs) p q ran = let d = item_within_indices_advances p ran.0 x ran.1 in let rest = indices_left_after xs ran.0 q ran.2 in let one : ran.0.1 - ran.0.0 ≡ p.1 - suc p.0 = ap (λ (z : ℕ × ℕ). z.1 - z.0) d.1 in let some = d.0 in omega (arith, rest, one, some)
+
+  hints_hold_of_indices : HintsHold IndexSteps (λ p h. h ≡ (p.1 - p.0, Some (p.1 - p.0))) sound_always
+  hints_hold_of_indices = record {
+    above = λ p h is some xs q ran. let d = indices_left_after xs p q ran in rw is (omega (arith, d));
+    below = λ p h is some xs q u ran step. let d = indices_left_after xs p q ran in let few = (end_past_indices q u step).0 in rw is (omega (arith, d, few));
+  }
 
 module _ {E : Type 0} where
   abbrev PadUsingContract : Contract (ℕ × ℕ) ℕ E
@@ -64,7 +94,7 @@ module _ {E : Type 0} where
   index_traced p trace q = (index_trace_of_run trace p q, (λ d. rw d.answers (run_of_indices E d.count d.ends p q d.within d.over d.left)))
 
   lawful_index : Lawful PadUsingContract
-  lawful_index = record { kept_by_draw = λ p r q c step. kept_by_draw_of_step p r q step; bounded = λ p. ((λ e. (p.1 - p.0, omega arith)), (λ b. tt)); traced = index_traced }
+  lawful_index = record { kept_by_draw = λ p r q c step. kept_by_draw_of_step p r q step; bounded = λ p. ((λ e. (p.1 - p.0, omega arith)), (λ b. tt)); traced = index_traced; hold = hints_hold_of_indices E }
 
 -- ---- the source beside the indices
 
@@ -86,4 +116,6 @@ module _ {S A E : Type 0} (steps : S → Answered A E → S → Type 0) where
   both_stay_free p r q free w = free_after_place w.0 p.1.0 q.1.0 p.0.1 q.0.1 p.1.1 q.1.1 free.0 free.1 w.2 w.4 w.3
 
 pub lawful_pad_using : {S F A E : Type 0} {m : Contract S A E} (g : Mut F (ℕ × Unit {0}) (Result A E)) → Lawful m → Lawful (pad_using_contract m g)
-lawful_pad_using {m = m} g l = lawful_passing (pad_call g) (λ P f. IsCallable (pad_call g) (pad_takes g) P f) map_outcome (λ p h. (beside_index_contract m).hints p.0 h) (λ P Q f h weak reached c. is_callable_after weak reached c) (lawful_parts_where both_sides_made (both_stay_free (fused_contract m).steps) (lawful_sides (fused_contract m) index_contract longest_rule hint_greater (lawful_fused l) lawful_index is_lawful_rule_longest))
+lawful_pad_using {E = E} {m = m} g l =
+    let beside = lawful_parts_where both_sides_made (both_stay_free (fused_contract m).steps) (lawful_sides (fused_contract m) index_contract longest_rule hint_greater (lawful_fused l) lawful_index (no_item_after_end_of_fused m.steps) (no_item_after_end_of_indices E) is_lawful_rule_longest counts_longest) in
+    lawful_with_sound (map_hold (pad_call g) beside.hold) (lawful_passing (pad_call g) (λ P f. IsCallable (pad_call g) (pad_takes g) P f) map_outcome (λ p h. (beside_index_contract m).hints p.0 h) (λ P Q f h weak reached c. is_callable_after weak reached c) beside)

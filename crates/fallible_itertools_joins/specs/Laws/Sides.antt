@@ -11,8 +11,9 @@ use Rattle.fallible_iterator.specs.Held.{held_count}
 use Rattle.fallible_iterator.specs.Laws.Closures.{reaches_reflexive, reaches_by_call_first, is_callable_after, may_answer_of_call, may_answer_where_reached_may_answer}
 use Rattle.fallible_iterator.specs.Laws.Contract.{lawful_parts}
 use Rattle.fallible_iterator.specs.Laws.Cutting.Fuse.{lawful_fuse}
+use Rattle.fallible_iterator.specs.Laws.Sound.{own_hold}
 use Rattle.fallible_itertools_joins.specs.Laws.SidesTraces.{sides_traced}
-use Rattle.fallible_itertools_joins.specs.Sides.{AsksOfTwo, Join, OfEachSide, by_ordering, join_answer, join_by, join_rule, left_first, right_first, taken_of_two, two_items, fused_contract, GivesHeldFirst, GivesIf, side_remaining, side_gives, Rule, SidesPlace, left_failed, right_failed, both_gave, left_gave, right_gave, left_held_after, right_held_after, place_answer, place_decides, Places, places_contract, rule_places, sides_contract}
+use Rattle.fallible_itertools_joins.specs.Sides.{AsksOfTwo, Join, OfEachSide, by_ordering, join_answer, join_by, join_rule, left_first, right_first, taken_of_two, two_items, fused_contract, GivesHeldFirst, GivesIf, side_remaining, side_gives, Rule, SidesPlace, left_failed, right_failed, both_gave, left_gave, right_gave, left_held_after, right_held_after, place_answer, place_decides, Places, places_contract, rule_places}
 use Rattle.fallible_iterator.specs.Laws.Joining.Chain.{both_true_where_cond_true, cond_true_where_both_true}
 use Rattle.fallible_itertools_joins.specs.declared.zip_longest.EitherOrBoth.{EitherOrBoth}
 use Rattle.fallible_itertools_joins.specs.declared.zip_longest.EitherOrBoth.TheVariants.{Both, Left, Right}
@@ -170,6 +171,7 @@ module _ {S U A B C E F X : Type 0} (left : Contract S A E) (right : Contract U 
       (λ h. ((l.bounded p.0.0).1 (h.1.0, h.1.2), (m.bounded p.1.0).1 (h.1.1, h.1.3))),
     );
     traced = sides_traced l.traced m.traced there;
+    hold = own_hold;
   }
 
 module _ {S U A B C E F V : Type 0} (left : Contract S A E) (right : Contract U B E) (rule : Rule A B C E F V) (hint : ℕ × Option ℕ → ℕ × Option ℕ → ℕ × Option ℕ) where
@@ -180,7 +182,7 @@ module _ {S U A B C E F V : Type 0} (left : Contract S A E) (right : Contract U 
     owed_for_where_made_by_rule p n (Ok None) o = tt
     owed_for_where_made_by_rule p n (Err e) o = (inr (inr o.0), o.1)
 
-    kept_by_draw_place : (p : SidesState left right (rule_places rule) hint) (t : S) (u : U) (g : F) (x : SidesPlace A B E V) → (sides_contract left right rule hint).can_next p → GivesIf left.steps p.0 (left_gave x) t → GivesIf right.steps p.1 (right_gave x) u → place_decides rule p.2 x g → KeptByDraw (sides_contract left right rule hint) p (place_answer rule x) ((t, left_held_after rule p.0.1 x), (u, right_held_after rule p.1.1 x), g)
+    kept_by_draw_place : (p : SidesState left right (rule_places rule) hint) (t : S) (u : U) (g : F) (x : SidesPlace A B E V) → (places_contract left right (rule_places rule) hint).can_next p → GivesIf left.steps p.0 (left_gave x) t → GivesIf right.steps p.1 (right_gave x) u → place_decides rule p.2 x g → KeptByDraw (places_contract left right (rule_places rule) hint) p (place_answer rule x) ((t, left_held_after rule p.0.1 x), (u, right_held_after rule p.1.1 x), g)
     kept_by_draw_place p t u g (left_failed e) c a b d =
         let k = side_kept_and_may_fail_where_fails left l p.0 t e c.0 a in
         rw (b, d) (kept_by_draw_where_both_sides_kept left right (rule_places rule) hint p ((t, None), p.1, p.2) 0 1 0 0 k.0 (side_kept_where_it_stays right p.1 c.1) w.gives_more (failure e) (inl k.1, omega arith) (w.askable_less (side_gives left p.0) (side_gives left (t, None)) (side_gives right p.1) (side_gives right p.1) p.2 k.0.gives (λ z h. h) c.2) (λ e h. w.refuses_more (side_gives left p.0) (side_gives left (t, None)) (side_gives right p.1) (side_gives right p.1) p.2 e k.0.gives (λ z h. h) h))
@@ -200,11 +202,11 @@ module _ {S U A B C E F V : Type 0} (left : Contract S A E) (right : Contract U 
         let decided : IsDecidedByRule rule (side_gives left p.0) (side_gives left (t, h)) (side_gives right p.1) (side_gives right (u, i)) p.2 x y v g = record { left_less = k.gives; right_less = j.gives; left_allowed = P; right_allowed = Q; decided = d } in
         kept_by_draw_where_both_sides_kept left right (rule_places rule) hint p ((t, h), (u, i), g) n n o o k j w.gives_more (rule.answer x y v) (owed_for_where_made_by_rule p (n + o) (rule.answer x y v) (w.made (side_gives left p.0) (side_gives right p.1) p.2 x y v g P Q d)) (w.askable_after decided c.2) (w.refuses_before decided)
 
-    kept_by_draw_sides : (p : SidesState left right (rule_places rule) hint) (r : Answered C E) (q : SidesState left right (rule_places rule) hint) → (sides_contract left right rule hint).can_next p → (sides_contract left right rule hint).steps p r q → KeptByDraw (sides_contract left right rule hint) p r q
+    kept_by_draw_sides : (p : SidesState left right (rule_places rule) hint) (r : Answered C E) (q : SidesState left right (rule_places rule) hint) → (places_contract left right (rule_places rule) hint).can_next p → (places_contract left right (rule_places rule) hint).steps p r q → KeptByDraw (places_contract left right (rule_places rule) hint) p r q
     kept_by_draw_sides p r ((t, h), (u, k), g) c step = rw (step.2, step.4, step.6) (kept_by_draw_place p t u g step.0 c step.1 step.3 step.5)
 
-    pub lawful_sides : Lawful (sides_contract left right rule hint)
-    lawful_sides = lawful_places left right (rule_places rule) hint l m kept_by_draw_sides
+    pub lawful_by_rule : Lawful (places_contract left right (rule_places rule) hint)
+    lawful_by_rule = lawful_places left right (rule_places rule) hint l m kept_by_draw_sides
 
 -- ---- a join
 

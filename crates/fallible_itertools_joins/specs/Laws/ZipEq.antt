@@ -1,19 +1,21 @@
 -- The contract of `ZipEq` is lawful where those of both sides are.
-use Rattle.std.specs.Prelude.{◌≡◌, ◌+◌, ◌-◌, Bool, true, false, Option, Some, None, ⊤}
+use Rattle.std.specs.Prelude.{ℕ, ◌≡◌, ◌+◌, ◌-◌, ◌≤◌, min, Bool, true, false, IfSome, Option, Some, None, ⊤}
 use Rattle.std.specs.Fn.{Mut}
 use Rattle.std.proofs.Common.{refl, sym, subst, arith, inl}
 use Rattle.fallible_iterator.specs.Closures.{Reaches}
-use Rattle.fallible_iterator.specs.Hints.{hint_smaller}
+use Rattle.fallible_iterator.specs.Hints.{hint_smaller, smaller_bound}
 use Rattle.fallible_iterator.specs.Contract.{Contract, Lawful, parts_as}
 use Rattle.fallible_iterator.specs.Held.{held_count}
 use Rattle.fallible_iterator.specs.Laws.Closures.{reaches_reflexive, reaches_by_call_first, is_callable_after, may_answer_of_call, may_answer_where_reached_may_answer}
 use Rattle.fallible_iterator.specs.Sources.FromFn.{call_of_none}
+use Rattle.fallible_iterator.specs.Traces.{item, end}
 use Rattle.fallible_iterator.specs.Fuse.{Fuse}
-use Rattle.fallible_itertools_joins.specs.Laws.Sides.{OfItem, MadeBy, IsLawfulRule, lawful_fused, lawful_sides}
+use Rattle.fallible_itertools_joins.specs.Laws.Sides.{OfItem, MadeBy, IsLawfulRule}
+use Rattle.fallible_itertools_joins.specs.Laws.SidesHints.{Bounds, Counts, GivesAsMany, TakesAsMany, lawful_joined}
 use Rattle.fallible_itertools_joins.specs.Laws.OverTraces.{InverseWhere, lawful_parts_where}
 use Rattle.fallible_itertools_joins.specs.Laws.SidesTraces.{right_stays_free}
 use Rattle.fallible_itertools_joins.specs.Sides.{RightFree, fused_contract}
-use Rattle.fallible_itertools_joins.specs.ZipEq.{AsksWhereAlone, one_is_alone, pair_answer, pair_rule, takes_none, zip_eq_contract, zip_eq_parts}
+use Rattle.fallible_itertools_joins.specs.ZipEq.{AsksWhereAlone, failure_or_end, one_is_alone, pair_answer, pair_rule, takes_none, zip_eq_contract, zip_eq_parts}
 use Rattle.fallible_itertools_joins.specs.declared.zip_eq.ZipEq.{ZipEq}
 
 module _ {F E : Type 0} (call : F → Unit {0} → E → F → Type 0) where
@@ -45,8 +47,49 @@ module _ {F A B E : Type 0} (call : F → Unit {0} → E → F → Type 0) (take
     refuses_before = λ {P} {P'} {Q} {Q'} {f} {g} {x} {y} {v} c e h. may_answer_where_reached_may_answer (λ z w. w) (reaches_where_alone call f g (one_is_alone x y) v c.decided) h;
   }
 
+-- ---- its hint counts as its rule does
+
+smaller_above : (a b : Option ℕ) (i j n : ℕ) → n ≤ min i j → IfSome a (λ m. i ≤ m) → IfSome b (λ m. j ≤ m) → IfSome (smaller_bound a b) (λ m. n ≤ m)
+smaller_above (Some x) (Some y) i j n few le also = omega (arith, few, le, also)
+smaller_above (Some x) None i j n few le also = omega (arith, few, le)
+smaller_above None (Some y) i j n few le also = omega (arith, few, also)
+smaller_above None None i j n few le also = tt
+
+pair_bounds : (g k : ℕ × Option ℕ) → Bounds min min (hint_smaller g k) g k
+pair_bounds g k = record { below = λ n i j few low also. omega (arith, few, low, also); above = λ n i j few high also. smaller_above g.1 k.1 i j n few high also }
+
+module _ {F A B E : Type 0} (call : F → Unit {0} → E → F → Type 0) (takes : F → Type 0) where
+  failure_or_end_is_no_item : (v : Option E) (z : A × B) → failure_or_end v ≡ item z → ⊥
+  failure_or_end_is_no_item (Some e) z is = absurd cc
+  failure_or_end_is_no_item None z is = absurd cc
+
+  takes_as_many_pair : TakesAsMany (pair_rule {A = A} {B = B} call takes) min
+  takes_as_many_pair f g (Some x) (Some y) v z i j d is e k = omega arith
+  takes_as_many_pair f g (Some x) None v z i j d is e k = absurd (failure_or_end_is_no_item v z is)
+  takes_as_many_pair f g None (Some y) v z i j d is e k = absurd (failure_or_end_is_no_item v z is)
+  takes_as_many_pair f g None None v z i j d is e k = absurd (failure_or_end_is_no_item v z is)
+
+  min_falls_by_one_at_most_at_pair : (x : Option A) (y : Option B) (v : Option E) (z : A × B) (i j : ℕ) → pair_answer x y v ≡ item z → min ((held_count x - 0) + i) ((held_count y - 0) + j) ≤ min i j + 1
+  min_falls_by_one_at_most_at_pair (Some x) (Some y) v z i j is = omega arith
+  min_falls_by_one_at_most_at_pair (Some x) None v z i j is = absurd (failure_or_end_is_no_item v z is)
+  min_falls_by_one_at_most_at_pair None y v z i j is = absurd (failure_or_end_is_no_item v z is)
+
+  end_of_both : (f g : F) (x : Option A) (y : Option B) (v : Option E) → AsksWhereAlone call f (one_is_alone x y) v g → pair_answer x y v ≡ end → (x ≡ None) × (y ≡ None)
+  end_of_both f g (Some x) (Some y) v d is = absurd cc
+  end_of_both f g (Some x) None (Some e) d is = absurd cc
+  end_of_both f g (Some x) None None d is = absurd d
+  end_of_both f g None (Some y) (Some e) d is = absurd cc
+  end_of_both f g None (Some y) None d is = absurd d
+  end_of_both f g None None v d is = (refl, refl)
+
+  gives_as_many_pair : GivesAsMany (pair_rule {A = A} {B = B} call takes) min
+  gives_as_many_pair = record { item_given = λ f g x y v z i j d is. min_falls_by_one_at_most_at_pair x y v z i j is; end_given = λ f g x y v d is. end_of_both f g x y v d is; nothing = refl }
+
+  counts_pair : Counts (pair_rule {A = A} {B = B} call takes) hint_smaller
+  counts_pair = record { low = min; high = min; gives = gives_as_many_pair; takes = takes_as_many_pair; bounds = pair_bounds }
+
 pub lawful_zip_eq : {S U F A B E : Type 0} {left : Contract S A E} {right : Contract U B E} (g : Mut F (Unit {0}) E) → Lawful left → Lawful right → Lawful (zip_eq_contract left right g)
-lawful_zip_eq {left = left} {right = right} g l k = lawful_sides (fused_contract left) (fused_contract right) (pair_rule (call_of_none g) (takes_none g)) hint_smaller (lawful_fused l) (lawful_fused k) (is_lawful_rule_pair (call_of_none g) (takes_none g))
+lawful_zip_eq g l k = lawful_joined (pair_rule (call_of_none g) (takes_none g)) hint_smaller l k (is_lawful_rule_pair (call_of_none g) (takes_none g)) (counts_pair (call_of_none g) (takes_none g))
 
 -- ---- the values are the parts of which nothing is held of the right
 

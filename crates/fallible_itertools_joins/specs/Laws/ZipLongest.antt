@@ -1,14 +1,15 @@
 -- The contract of `ZipLongest` is lawful where those of both sides are.
-use Rattle.std.specs.Prelude.{◌≡◌, cond, Option, Some, None, Ok, Err, Result}
+use Rattle.std.specs.Prelude.{ℕ, ◌≡◌, ◌≤◌, cond, max, IfSome, Option, Some, None, Ok, Err, Result}
 use Rattle.std.specs.declared.cmp.Ordering.TheVariants.{Equal}
-use Rattle.std.proofs.Common.{refl}
+use Rattle.std.proofs.Common.{arith, refl}
 use Rattle.fallible_iterator.specs.Contract.{Contract, Lawful, parts_as}
 use Rattle.fallible_iterator.specs.Fuse.{Fuse}
-use Rattle.fallible_itertools_joins.specs.Laws.Sides.{IsLawfulRule, is_lawful_rule_join, lawful_fused, lawful_sides, of_each_where_each_implies}
+use Rattle.fallible_itertools_joins.specs.Laws.Sides.{IsLawfulRule, is_lawful_rule_join, of_each_where_each_implies}
+use Rattle.fallible_itertools_joins.specs.Laws.SidesHints.{Bounds, Counts, TakesAsMany, gives_as_many_join, lawful_joined}
 use Rattle.fallible_itertools_joins.specs.Laws.OverTraces.{InverseWhere, lawful_parts_where}
 use Rattle.fallible_itertools_joins.specs.Laws.SidesTraces.{right_stays_free}
 use Rattle.fallible_itertools_joins.specs.Sides.{RightFree, fused_contract, left_first, right_first}
-use Rattle.fallible_itertools_joins.specs.ZipLongest.{longest_join, longest_rule, hint_greater, zip_longest_contract, zip_longest_parts}
+use Rattle.fallible_itertools_joins.specs.ZipLongest.{greater_bound, longest_join, longest_rule, hint_greater, zip_longest_contract, zip_longest_parts}
 use Rattle.fallible_itertools_joins.specs.declared.zip_longest.ZipLongest.{ZipLongest}
 
 -- nothing is held of a side whose item is always taken
@@ -33,8 +34,33 @@ module _ {A B E : Type 0} where
     refuses_said = λ P Q f g x y e p q d. absurd cc;
   })
 
+-- ---- its hint counts as its rule does
+
+greater_bound_is_above_max : (a b : Option ℕ) (i j n : ℕ) → n ≤ max i j → IfSome a (λ m. i ≤ m) → IfSome b (λ m. j ≤ m) → IfSome (greater_bound a b) (λ m. n ≤ m)
+greater_bound_is_above_max (Some x) (Some y) i j n few le also = omega (arith, few, le, also)
+greater_bound_is_above_max (Some x) None i j n few le also = tt
+greater_bound_is_above_max None b i j n few le also = tt
+
+longest_bounds : (g k : ℕ × Option ℕ) → Bounds max max (hint_greater g k) g k
+longest_bounds g k = record { below = λ n i j few low also. omega (arith, few, low, also); above = λ n i j few high also. greater_bound_is_above_max g.1 k.1 i j n few high also }
+
+module _ {A B E : Type 0} where
+  -- where each side that still has items gives one, the greater number of them goes down
+  takes_as_many_longest : TakesAsMany (longest_rule {A = A} {B = B} {E = E}) max
+  takes_as_many_longest f g (Some x) (Some y) (Some (Ok k)) z i j d is e c = omega arith
+  takes_as_many_longest f g (Some x) (Some y) (Some (Err b)) z i j d is e c = absurd cc
+  takes_as_many_longest f g (Some x) (Some y) None z i j d is e c = absurd d
+  takes_as_many_longest f g (Some x) None (Some v) z i j d is e c = absurd d
+  takes_as_many_longest f g (Some x) None None z i j d is e c = omega (arith, c)
+  takes_as_many_longest f g None (Some y) (Some v) z i j d is e c = absurd d
+  takes_as_many_longest f g None (Some y) None z i j d is e c = omega (arith, e)
+  takes_as_many_longest f g None None v z i j d is e c = absurd cc
+
+  pub counts_longest : Counts (longest_rule {A = A} {B = B} {E = E}) hint_greater
+  counts_longest = record { low = max; high = max; gives = gives_as_many_join longest_join; takes = takes_as_many_longest; bounds = longest_bounds }
+
 pub lawful_zip_longest : {S U A B E : Type 0} {left : Contract S A E} {right : Contract U B E} → Lawful left → Lawful right → Lawful (zip_longest_contract left right)
-lawful_zip_longest {left = left} {right = right} l k = lawful_sides (fused_contract left) (fused_contract right) longest_rule hint_greater (lawful_fused l) (lawful_fused k) is_lawful_rule_longest
+lawful_zip_longest l k = lawful_joined longest_rule hint_greater l k is_lawful_rule_longest counts_longest
 
 -- ---- the values are the parts of which nothing is held of the right
 

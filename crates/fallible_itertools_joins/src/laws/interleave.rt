@@ -1,12 +1,8 @@
 // The laws of `Interleave`.
 ghost use Rattle.std.specs.Prelude.{◌≡◌, ◌++◌, [], ◌∷◌, List, Result, drop, length, zip};
 ghost use Rattle.std.specs.List.{flat_map};
-ghost use Rattle.fallible_iterator.specs.SoundHints.{HintsAsSoundAsBoth};
 ghost use Rattle.fallible_iterator.specs.Interleaved.{Interleaved};
-ghost use Rattle.fallible_itertools_joins.specs.Interleave.{interleave_left_fused, interleave_right_fused, interleaved};
-
-use crate::interleave::Interleave;
-use fallible_iterator::{FallibleIterator, Fuse};
+ghost use Rattle.fallible_itertools_joins.specs.Interleave.{interleaved};
 
 /// `interleaved` takes both lists two by two, the first list's before the second's, and then the rest of the longer one. So it has the answers of both, each list's in their order.
 pub fn law_interleaved<T, E>()
@@ -15,16 +11,4 @@ pub fn law_interleaved<T, E>()
         ++ (drop (length b) a ++ drop (length a) b) }
     ensures answers { (a : List (Result T E)) (b : List (Result T E))
         → Interleaved a b (interleaved a b) }
-{}
-
-/// Each hint of `Interleave` is as sound as the hints of both sides, each fused.
-pub fn law_hints_interleave<
-    T: FallibleIterator,
-    U: FallibleIterator<Item = T::Item, Error = T::Error>,
->()
-where
-    ensures { (s : Interleave T U)
-        → HintsAsSoundAsBoth ⟦<Interleave<T, U> as FallibleIterator>⟧.contract s
-        ⟦<Fuse<T> as FallibleIterator>⟧.contract (interleave_left_fused s)
-        ⟦<Fuse<U> as FallibleIterator>⟧.contract (interleave_right_fused s) }
 {}

@@ -10,11 +10,6 @@ ghost use Rattle.fallible_itertools_joins.specs.InOrder.{EachNext, LetsLessFirst
 ghost use Rattle.fallible_itertools_joins.specs.KMerge.{kmerged_in_order};
 ghost use Rattle.fallible_itertools_joins.specs.KMergeBy.{LeastFirst, kmerged};
 ghost use Rattle.fallible_itertools_joins.specs.MergeTree.{Each};
-ghost use Rattle.fallible_iterator.specs.SoundHints.{SoundHints};
-
-use crate::kmerge::KMerge;
-use crate::kmerge_by::KMergeBy;
-use fallible_iterator::FallibleIterator;
 
 /// Between failures no item of the merged list is less than the one before it, if so it is of each list, and the closure never lets an item go first than which the other is less. If the closure never fails and lets the first of two items go first unless the second is less, the merged list takes the first elements of the lists one at a time (`LeastFirst`): the first failure among them, and if there is none the least item, of equal ones that of the earliest list. Only one list does so. If the closure never fails, the merged list has the items of all; of sorted lists the equal ones come in the order of the lists.
 pub fn law_kmerged<T, E>()
@@ -47,23 +42,4 @@ pub fn law_kmerged_in_order<T, E>()
         → ((x : T) (y : T) → reads_le (order x y) ≡ not (reads_lt (order y x)))
         → (ls : List (List (Result T E)))
         → LeastFirst (λ x y. reads_lt (order x y)) ls (kmerged_in_order order ls) }
-{}
-
-/// Each hint of `KMergeBy` is sound: it says that at least 0 items come.
-pub fn law_hints_kmerge_by<
-    I: FallibleIterator,
-    F: FnMut(&I::Item, &I::Item) -> Result<bool, I::Error>,
->()
-where
-    I::Item: Drop,
-    ensures { (s : KMergeBy I F I.Item I.Error)
-        → SoundHints ⟦<KMergeBy<I, F> as FallibleIterator>⟧.contract s }
-{}
-
-/// Each hint of `KMerge` is sound: it says that at least 0 items come.
-pub fn law_hints_kmerge<I: FallibleIterator>()
-where
-    I::Item: PartialOrd + Drop,
-    ensures { (s : KMerge I I.Item I.Error)
-        → SoundHints ⟦<KMerge<I> as FallibleIterator>⟧.contract s }
 {}

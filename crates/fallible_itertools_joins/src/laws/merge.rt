@@ -6,22 +6,7 @@ ghost use Rattle.std.specs.declared.cmp.Ordering.{Ordering};
 ghost use Rattle.fallible_iterator.specs.BothEnds.{items_listed};
 ghost use Rattle.fallible_iterator.specs.Comparing.{reads_le, reads_lt};
 ghost use Rattle.fallible_iterator.specs.Lists.{items};
-ghost use Rattle.fallible_iterator.specs.SoundHints.{HintsAsSoundAsBoth};
-ghost use Rattle.fallible_itertools_joins.specs.Merge.{merge_parts, merged_in_order};
-ghost use Rattle.fallible_itertools_joins.specs.Sides.{left_fused, right_fused};
-
-use crate::merge::Merge;
-use fallible_iterator::{FallibleIterator, Fuse};
-
-/// Each hint of `Merge` is as sound as the hints of both sides, each fused.
-pub fn law_hints_merge<T: FallibleIterator, U: FallibleIterator<Item = T::Item, Error = T::Error>>()
-where
-    T::Item: PartialOrd + Drop,
-    ensures { (s : Merge T U T.Item T.Error)
-        → HintsAsSoundAsBoth ⟦<Merge<T, U> as FallibleIterator>⟧.contract s
-        ⟦<Fuse<T> as FallibleIterator>⟧.contract (left_fused (merge_parts s))
-        ⟦<Fuse<U> as FallibleIterator>⟧.contract (right_fused (merge_parts s)) }
-{}
+ghost use Rattle.fallible_itertools_joins.specs.Merge.{merged_in_order};
 
 /// Two sorted lists make a sorted list, where the order is one in which any two items compare. Of equal items those of the first list come first, and those of one list in their order.
 pub fn law_merged_in_order<T, E>()

@@ -3,15 +3,10 @@ ghost use Rattle.std.specs.Cmp.{IsStrictWeakOrder};
 ghost use Rattle.std.specs.List.Sorted.{IsStableBy};
 ghost use Rattle.std.specs.Prelude.{◌≡◌, ◌++◌, Bool, false, List, Ok, Result, IsPermutation, IsSortedBy, not};
 ghost use Rattle.fallible_iterator.specs.BothEnds.{items_listed};
-ghost use Rattle.fallible_iterator.specs.SoundHints.{HintsAsSoundAsBoth};
 ghost use Rattle.fallible_iterator.specs.Lists.{items};
 ghost use Rattle.fallible_iterator.specs.Interleaved.{Interleaved};
 ghost use Rattle.fallible_itertools_joins.specs.InOrder.{EachNext, LetsLessFirst};
-ghost use Rattle.fallible_itertools_joins.specs.MergeBy.{merge_by_parts, merged};
-ghost use Rattle.fallible_itertools_joins.specs.Sides.{left_fused, right_fused};
-
-use crate::merge_by::MergeBy;
-use fallible_iterator::{FallibleIterator, Fuse};
+ghost use Rattle.fallible_itertools_joins.specs.MergeBy.{merged};
 
 /// Two sorted lists make a sorted list, if the closure never lets an item go first than which the other is less. So it is between failures, too. If the closure never fails, the merged list has the items of both, and the answers of each list in their order. If the left's item goes first unless the right's is less, of equal items those of the left come first, and those of one side in their order.
 pub fn law_merged<T, E>()
@@ -34,18 +29,4 @@ pub fn law_merged<T, E>()
         (merged {E = E} (λ x y. Ok (goes x y)) (items xs) (items ys))) }
     ensures answers { (goes : T → T → Bool) (a : List (Result T E)) (b : List (Result T E))
         → Interleaved a b (merged (λ x y. Ok (goes x y)) a b) }
-{}
-
-/// Each hint of `MergeBy` is as sound as the hints of both sides, each fused.
-pub fn law_hints_merge_by<
-    T: FallibleIterator,
-    U: FallibleIterator<Item = T::Item, Error = T::Error>,
-    F: FnMut(&T::Item, &T::Item) -> Result<bool, T::Error>,
->()
-where
-    T::Item: Drop,
-    ensures { (s : MergeBy T U F T.Item T.Error)
-        → HintsAsSoundAsBoth ⟦<MergeBy<T, U, F> as FallibleIterator>⟧.contract s
-        ⟦<Fuse<T> as FallibleIterator>⟧.contract (left_fused (merge_by_parts s))
-        ⟦<Fuse<U> as FallibleIterator>⟧.contract (right_fused (merge_by_parts s)) }
 {}

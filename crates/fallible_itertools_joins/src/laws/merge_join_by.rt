@@ -3,15 +3,9 @@ ghost use Rattle.std.specs.List.{filter_map};
 ghost use Rattle.std.specs.Prelude.{◌≡◌, ◌++◌, All, Bool, true, IsPermutation, List, Ok, Result};
 ghost use Rattle.std.specs.declared.cmp.Ordering.{Ordering};
 ghost use Rattle.fallible_iterator.specs.BothEnds.{failures_listed, items_listed};
-ghost use Rattle.fallible_iterator.specs.SoundHints.{HintsAsSoundAsBoth};
 ghost use Rattle.fallible_itertools_joins.specs.InOrder.{EachNext};
-ghost use Rattle.fallible_itertools_joins.specs.MergeJoinBy.{JoinsByKeys, PairsEqual, key_of_either, merge_join_by_parts, merge_joined};
-ghost use Rattle.fallible_itertools_joins.specs.Sides.{left_fused, right_fused};
+ghost use Rattle.fallible_itertools_joins.specs.MergeJoinBy.{JoinsByKeys, PairsEqual, key_of_either, merge_joined};
 ghost use Rattle.fallible_itertools_joins.specs.ZipLongest.{left_of, right_of};
-
-use crate::merge_join_by::MergeJoinBy;
-use fallible_iterator::{FallibleIterator, Fuse};
-use std::cmp::Ordering;
 
 /// Two items stand together only where the closure returns `Equal`. If the closure never fails, the left's items of the joined list are those of the first list, and the right's those of the second, each in their order; and the failures are those of both. If the keys of adjacent items of both lists are in an order, and the closure compares items by their keys in that order, so are the keys of adjacent items of the joined list. So two sorted lists make a sorted list, and two strictly sorted ones a strictly sorted list.
 pub fn law_merge_joined<A, B, K, E>()
@@ -33,19 +27,4 @@ pub fn law_merge_joined<A, B, K, E>()
         → EachNext (λ x y. before (j x) (j y) ≡ true) b
         → EachNext (λ x y. before (key_of_either k j x) (key_of_either k j y) ≡ true)
         (merge_joined h a b) }
-{}
-
-/// Each hint of `MergeJoinBy` is as sound as the hints of both sides, each fused.
-pub fn law_hints_merge_join_by<
-    T: FallibleIterator,
-    U: FallibleIterator<Error = T::Error>,
-    F: FnMut(&T::Item, &U::Item) -> Result<Ordering, T::Error>,
->()
-where
-    T::Item: Drop,
-    U::Item: Drop,
-    ensures { (s : MergeJoinBy T U F T.Item T.Error U.Item)
-        → HintsAsSoundAsBoth ⟦<MergeJoinBy<T, U, F> as FallibleIterator>⟧.contract s
-        ⟦<Fuse<T> as FallibleIterator>⟧.contract (left_fused (merge_join_by_parts s))
-        ⟦<Fuse<U> as FallibleIterator>⟧.contract (right_fused (merge_join_by_parts s)) }
 {}

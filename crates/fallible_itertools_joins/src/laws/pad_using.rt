@@ -1,11 +1,7 @@
 // The laws of `PadUsing`.
 ghost use Rattle.std.specs.Prelude.{◌≡◌, ℕ, ◌+◌, ◌-◌, ◌++◌, List, Ok, Result, length, max};
 ghost use Rattle.fallible_iterator.specs.BothEnds.{failures_listed, items_listed};
-ghost use Rattle.fallible_iterator.specs.SoundHints.{HintsAsSoundAs};
-ghost use Rattle.fallible_itertools_joins.specs.PadUsing.{from_index, pad_using_fused, padded};
-
-use crate::pad_using::PadUsing;
-use fallible_iterator::{FallibleIterator, Fuse};
+ghost use Rattle.fallible_itertools_joins.specs.PadUsing.{from_index, padded};
 
 /// `padded` makes at least n items, if the closure never fails: first those of the list, in order.
 pub fn law_padded<T, E>()
@@ -17,12 +13,4 @@ pub fn law_padded<T, E>()
         ≡ items_listed l ++ from_index h (length (items_listed l)) (n - length (items_listed l)) }
     ensures failures { (n : ℕ) (h : ℕ → T) (l : List (Result T E))
         → failures_listed (padded n (λ i. Ok (h i)) l) ≡ failures_listed l }
-{}
-
-/// Each hint of `PadUsing` is as sound as that of its source, fused.
-pub fn law_hints_pad_using<I: FallibleIterator, F: FnMut(usize) -> Result<I::Item, I::Error>>()
-where
-    ensures { (s : PadUsing I F)
-        → HintsAsSoundAs ⟦<PadUsing<I, F> as FallibleIterator>⟧.contract s
-        ⟦<Fuse<I> as FallibleIterator>⟧.contract (pad_using_fused s) }
 {}

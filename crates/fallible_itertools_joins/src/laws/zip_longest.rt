@@ -2,12 +2,7 @@
 ghost use Rattle.std.specs.Prelude.{◌≡◌, ℕ, ◌++◌, List, Ok, Option, Result, IsPermutation, length, max};
 ghost use Rattle.fallible_iterator.specs.BothEnds.{items_listed, failures_listed};
 ghost use Rattle.fallible_iterator.specs.Lists.{nth_of};
-ghost use Rattle.fallible_iterator.specs.SoundHints.{HintsAsSoundAsBoth};
-ghost use Rattle.fallible_itertools_joins.specs.ZipLongest.{longest, zip_longest_parts, zipped_longest};
-ghost use Rattle.fallible_itertools_joins.specs.Sides.{left_fused, right_fused};
-
-use crate::zip_longest::ZipLongest;
-use fallible_iterator::{FallibleIterator, Fuse};
+ghost use Rattle.fallible_itertools_joins.specs.ZipLongest.{longest, zipped_longest};
 
 /// `zipped_longest` makes as many items as the longer list has. Each position before a failure has the items of both lists, or the one that is there. The failures are those of both lists.
 pub fn law_zipped_longest<T, U, E>()
@@ -20,15 +15,4 @@ pub fn law_zipped_longest<T, U, E>()
     ensures failures { (a : List (Result T E)) (b : List (Result U E))
         → IsPermutation (failures_listed a ++ failures_listed b)
         (failures_listed (zipped_longest a b)) }
-{}
-
-/// Each hint of `ZipLongest` is as sound as the hints of both sides, each fused.
-pub fn law_hints_zip_longest<T: FallibleIterator, U: FallibleIterator<Error = T::Error>>()
-where
-    T::Item: Drop,
-    U::Item: Drop,
-    ensures { (s : ZipLongest T U T.Item T.Error)
-        → HintsAsSoundAsBoth ⟦<ZipLongest<T, U> as FallibleIterator>⟧.contract s
-        ⟦<Fuse<T> as FallibleIterator>⟧.contract (left_fused (zip_longest_parts {B = U.Item} s))
-        ⟦<Fuse<U> as FallibleIterator>⟧.contract (right_fused (zip_longest_parts {B = U.Item} s)) }
 {}
