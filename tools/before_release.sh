@@ -8,6 +8,7 @@
 # It prints what each prints, the seconds that it took, and last `N passed, M failed` with the names of those that failed. The
 # status is 0 where none failed. Run it with nothing uncommitted, since the edits are tried in a copy of the last commit.
 set -u
+. "$(dirname "$0")/usage.sh"
 cd "$(dirname "$0")/.."
 
 # The name of a step, its command, and how long it takes on four cores.

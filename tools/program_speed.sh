@@ -15,6 +15,7 @@
 # The status is 1 where an output differs from the program's or from crates/NAME/stdout, and otherwise 2 where a program is
 # not there.
 set -eu
+. "$(dirname "$0")/usage.sh"
 repository=$(cd "$(dirname "$0")/.." && pwd)
 runs=${1:-20}
 names=("${@:2}")

@@ -11,6 +11,7 @@
 # for each number, by a fold and by `next`: those of 200,000 numbers less those of none, by valgrind's callgrind. With --write
 # what `calls` and `compile` print goes into release/rust-bench/FIGURES.md too. The status is 1 where an answer differs.
 set -eu
+. "$(dirname "$0")/usage.sh"
 repository=$(cd "$(dirname "$0")/.." && pwd)
 writes=
 [ "${1:-}" != --write ] || { writes=yes; shift; }

@@ -5,6 +5,7 @@
 #                              `next`: those of 200,000 numbers less those of none, by valgrind's callgrind
 #     tools/speed.sh times N   prints the times over N numbers, in hundredths of the loop's
 set -eu
+. "$(dirname "$0")/usage.sh"
 cd "$(dirname "$0")/.."
 copy=$(mktemp -d)
 trap 'rm -rf "$copy"' EXIT

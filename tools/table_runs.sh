@@ -4,7 +4,10 @@
 # runs those of `--program FILE`, as crates/sum_table/out/sum_table, which the gate leaves; the word may come for each. With
 # `--rust` they are those of rust/programs.
 # The status is 0 where every run is as wanted.
+#
+#     tools/table_runs.sh [--program FILE].. | [--rust]
 set -eu
+. "$(dirname "$0")/usage.sh"
 cd "$(dirname "$0")/.."
 . tools/device_runs.sh
 
