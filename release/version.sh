@@ -3,9 +3,9 @@
 # toolchain that runs with KIT, and the tags with VERSION, which none may have yet. It prints each difference, and ends
 # with status 1 where there is one.
 #
-#     tools/version.sh
+#     release/version.sh
 set -u
-. "$(dirname "$0")/usage.sh"
+. "$(dirname "$0")/../tools/usage.sh"
 cd "$(dirname "$0")/.."
 version=$(cat VERSION)
 kit=$(cat KIT)

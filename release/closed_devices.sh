@@ -4,11 +4,11 @@
 # that of `--program FILE`, as crates/count_rows/out/count_rows, which the gate leaves; with `--rust` it is that of rust/programs.
 # The status is 0 where every run is as wanted.
 #
-#     tools/closed_devices.sh [--program FILE | --rust]
+#     release/closed_devices.sh [--program FILE | --rust]
 set -eu
-. "$(dirname "$0")/usage.sh"
+. "$(dirname "$0")/../tools/usage.sh"
 cd "$(dirname "$0")/.."
-. tools/device_runs.sh
+. release/device_runs.sh
 
 build count_rows
 printf '100\n200\n400\n' >"$work/rows"
