@@ -2,7 +2,10 @@
 # Drives each adapter by every script of at most four answers: the program release/scripts is built, without a proof, and
 # run. It prints how many comparisons were made, and the first lines that differ from the program's `stdout`, as those of
 # mismatches. The status is 0 where nothing differs, and 3 where it hasn't ended within a quarter of an hour.
+#
+#     tools/adapter_runs.sh
 set -eu
+. "$(dirname "$0")/usage.sh"
 cd "$(dirname "$0")/.."
 copy=$(mktemp -d)
 trap 'rm -rf "$copy"' EXIT

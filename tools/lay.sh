@@ -9,6 +9,7 @@
 # the gate refuses such a file that no crate reads, and `stands_on` names the crates below it. `takes` names files of crates that
 # stand in it too, each after its place.
 set -eu
+. "$(dirname "$0")/usage.sh"
 cd "$(dirname "$0")/.."
 copy=$1
 names=()

@@ -5,9 +5,15 @@
 # says before the names. What hasn't ended then is no failure: it is told as 'slow, not done'. The last line is 'N passed, M
 # failed'; the status is 0 where each passed, 1 where one failed, and else 3 where one was slow.
 #
+#     tools/quick_test.sh [--seconds N] [NAME..]
+#
+# Of a crate that fails it prints the names and the messages of the tests that failed, or how the program's output differs,
+# and the file that has all that was printed.
+#
 # A crate with tests passes where as many pass as its files have. A program passes where it prints what its file `stdout`
 # says of what its file `stdin` has.
 set -u
+. "$(dirname "$0")/usage.sh"
 cd "$(dirname "$0")/.."
 seconds=600
 if [ "${1-}" = --seconds ]; then
@@ -49,10 +55,24 @@ run_crate() {
     until mkdir "$work/done/$place" 2>/dev/null; do place=$((place + 1)); done
     [ "$slow" = 0 ] || echo "$1" >"$said.slow"
     echo "$place of $crates: $(cat "$said.line")$([ "$slow" = 0 ] || echo "; slow, not done: $slow")"
-    grep -q ' 0 failed' "$said.line" || tail -n 30 "$said" "$said.told" 2>/dev/null
+    grep -q ' 0 failed' "$said.line" || tell_failed "$1" "$said" "$tests"
 }
-export -f run_crate
-export work seconds
+
+# Prints what failed of the crate $1, which has $3 tests and printed the file $2, and where all of it is kept.
+tell_failed() {
+    if [ "$3" -gt 0 ]; then
+        grep -vE '^(tests: |test .*\.\.\. ok$|run=)' "$2" | head -n 200
+    else
+        diff stdout "$2" | head -n 30 | cut -c 1-300
+        head -n 30 "$2.told"
+    fi
+    mkdir -p "$kept"
+    cat "$2" "$2.told" >"$kept/$1" 2>/dev/null
+    echo "all that $1 printed: $kept/$1"
+}
+export -f run_crate tell_failed
+kept=${TMPDIR:-/tmp}/quick_test.$$
+export work seconds kept
 
 names=()
 for name in "$@"; do

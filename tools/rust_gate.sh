@@ -1,12 +1,19 @@
 #!/usr/bin/env bash
-# Makes the Rust crates with the repository's own tests, compares them with those in rust/, which have none of these, builds them in each set of features with no warning, lints and
-# documents them with none, runs their tests and doc tests and the programs, and has `fallible-itertools` stand beside the original.
+# Makes the Rust crates with the repository's own tests, compares them with those in rust/, which have none of these, builds
+# them in each set of features with no warning, lints and documents them with none, runs their tests and doc tests and the
+# programs, and has `fallible-itertools` stand beside the original. The status is 1 where one of these fails, and 2 where a tool
+# is missing.
+#
+#     tools/rust_gate.sh
 set -eu
+. "$(dirname "$0")/usage.sh"
 cd "$(dirname "$0")/.."
-if ! command -v cargo > /dev/null || ! command -v rustfmt > /dev/null; then
-    echo "rust: no cargo or no rustfmt is here, so the Rust crates are not built"
-    exit 0
-fi
+for tool in cargo rustc rustfmt cargo-clippy rustdoc python3; do
+    command -v "$tool" >/dev/null || {
+        echo "rust: $tool is not here, so the Rust crates are not built. docs/GATE.md says what the gate needs" >&2
+        exit 2
+    }
+done
 folder=$(mktemp -d)
 trap 'rm -rf "$folder"' EXIT
 

@@ -5,7 +5,7 @@ import re
 # The ending of a script by the program that its first line names.
 ENDING = {"#!/usr/bin/env bash": ".sh", "#!/usr/bin/env python3": ""}
 
-STEP = re.compile(r"^(\w+)\|(tools/[^|\n]+)\|(.+)$", re.MULTILINE)
+STEP = re.compile(r"^(\w+)\|((?:tools|release)/[^|\n]+)\|(.+)$", re.MULTILINE)
 USED = re.compile(r"\b((?:tools|release)/[\w.-]+)((?:/[\w.-]+)*\b)")
 
 
@@ -16,9 +16,9 @@ def purpose(text):
 
 
 def release(top):
-    """The lines of the table of what runs before a release, of the steps of `tools/before_release.sh`."""
+    """The lines of the table of what runs before a release, of the steps of `release/before_release.sh`."""
     lines = ["| Step | Command | What it does | With | How long |\n|---|---|---|---|---|"]
-    path = top / "tools" / "before_release.sh"
+    path = top / "release" / "before_release.sh"
     for step, command, time in STEP.findall(path.read_text(encoding="utf-8")) if path.is_file() else []:
         text = (top / command.split()[0]).read_text(encoding="utf-8")
         found = {name.rstrip(".") for name, below in USED.findall(text) if (top / f"{name.rstrip('.')}{below}").exists()}
@@ -28,8 +28,8 @@ def release(top):
 
 
 def scripts(top):
-    """The files of `tools/` that are run or sourced."""
-    found = [*(top / "tools").glob("*"), *(top / "tools" / "tests").glob("*")]
+    """The files of `tools/` and `release/` that are run or sourced."""
+    found = [*(top / "tools").glob("*"), *(top / "tools" / "tests").glob("*"), *(top / "release").glob("*")]
     return sorted(path for path in found if path.is_file())
 
 

@@ -2,6 +2,7 @@
 
 import re
 
+import edit_blocks
 from made import belief
 from made.callers import callers
 from made.code import lines_of
@@ -15,14 +16,19 @@ def count_of(pattern, files):
     return sum(1 for path in files for line in lines_of(path) if re.match(pattern, line))
 
 
+def edits(crates, folder):
+    """How many edits the crates have in folders of this name."""
+    return sum(len(list(edit_blocks.blocks(path))) for path in crates.glob(f"*/{folder}/**/*.edit"))
+
+
 def figures(crates):
     """What is counted, by its name in the pages."""
     rows = list(callers(crates))
     words, lines = belief.size(crates, "fallible_itertools/src/traits.rt", "dedup", ("parts", "lists"))
     laws = list((crates / "fallible_iterator" / "src" / "laws").rglob("*.rt"))
     return {
-        "edits": len(list(crates.glob("*/gate-edits/*.edit"))),
-        "release edits": len(list(crates.glob("*/release-edits/*.edit"))),
+        "edits": edits(crates, "gate-edits"),
+        "release edits": edits(crates, "release-edits"),
         "callers": len(rows),
         "callers with no proof": sum(1 for row in rows if not row[4]),
         "callers with a law": sum(1 for row in rows if row[5]),

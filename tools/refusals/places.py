@@ -22,7 +22,27 @@ CONDITION = re.compile(r"\bif\s+(?P<not>!\s*)?(?P<called>[^{}]*?)\s*\{\s*(?:retu
 # Calls that may fail for want of memory or for another reason: which of the two it was is told.
 TELLING = re.compile(r"(?:\benv::args|\.read_rest|\.read_first_line)\(")
 KEEPS = re.compile(r"\bfault_of_\w+\(&(\w+)\)|\b(\w+)\.kind\(\)|\bErr\((\w+)\)")
-ROOM = re.compile(r"\b(with_capacity|with_capacity_in|try_reserve|reserve|reserve_exact|allocate)\(([^()]*(?:\([^()]*\))?[^()]*)\)")
+# Calls that request room for as many as one of their arguments says: the last, of `resize` and its kin the first.
+ROOM = re.compile(r"(?:\b|\.)(with_capacity|with_capacity_in|try_reserve|reserve|reserve_exact|allocate|resize|resize_with|repeat|repeat_n)\(([^()]*(?:\([^()]*\))?[^()]*)\)")
+FIRST = ("resize", "resize_with")
+# What makes a size that no caller has: the largest number, and a sum that stops there.
+OVERSIZED = re.compile(r"\bMAX\b|\bsaturating_\w+|<<|\bpow\(")
+# Any number of items may come of these.
+UNSIZED = re.compile(r"\.(extend|extend_from_within|append)\(")
+# The calls of std that fail if an allocation does.
+STD = {
+    "allocate", "clone", "collect", "entry", "extend_from_slice", "insert", "push", "push_back", "push_front", "push_str", "reserve",
+    "resize", "sort", "sort_by", "sort_by_key", "to_vec", "try_reserve", "with_capacity", "with_capacity_in", "write_fmt", "write_str", "vec!",
+    # of `BufReader` and `Box`
+    "new",
+    # of a system's words and files, whose failure has a kind
+    "args", "kind",
+}
+# How many failures have a reason beside them, and how many come of a call that isn't one of these. A reviewer looks at each
+# one more, and changes the number.
+REASONS, OTHERS = 19, 31
+LET = re.compile(r"\blet\s+(?:mut\s+)?\w+\s*:\s*(?:&\s*)?(?:\w+\s*::\s*)*AllocError\s*=")
+NUMBERED = re.compile(r"\bfrom_raw_os_error\b")
 FILLED = re.compile(r"\bvec!\[in \w+;[^;\]]*;([^\]]*)\]")
 ALIASES = re.compile(r"\bAllocError\s+as\b|\btype\s+\w+[^=;]*=[^;]*\bAllocError\s*;|\bimpl\b[^{;]*\bfor\s+AllocError\b")
 FIELD = re.compile(r"\bstruct\b[^{};]*(?:\{[^}]*\bAllocError\b[^}]*\}|\([^;]*\bAllocError\b[^;]*;)")
@@ -30,6 +50,8 @@ CONVERSION = re.compile(r"\bimpl(?:<[^{}()]*?>)?\s+From<Alloc(?:Error|Failed<[^>
 
 # A caller's collection that rejects items by its contract, as an example of one.
 EXCEPTED = {("crates/example_chains/src/collecting.rt", "push_one")}
+# A size that is what is held and a caller's number more.
+GIVEN = {("crates/fallible_json/src/making.rt", "held.saturating_add(more)")}
 
 
 @functools.lru_cache(maxsize=None)
@@ -58,6 +80,16 @@ def variants_of(texts):
     return tuple(sorted(set(VARIANTS).union(*map(converted, texts))))
 
 
+def miscounted(readings):
+    """A line for each of the two numbers that isn't so, and for the second one each failure that it counts."""
+    reasons, others = sum(reading.reasons for reading in readings), [other for reading in readings for other in reading.others]
+    if reasons != REASONS:
+        yield f"failures with a reason: {reasons}, and REASONS of tools/refusals/places.py is {REASONS}"
+    if len(others) != OTHERS:
+        yield f"failures of calls of the code's own: {len(others)}, and OTHERS of tools/refusals/places.py is {OTHERS}"
+        yield from others
+
+
 @dataclasses.dataclass
 class Finding:
     """What is wrong at a line of a file, in a function."""
@@ -77,7 +109,7 @@ class Reading:
     def __init__(self, name, text, variants=VARIANTS):
         self.name, self.lines, self.text = name, text.splitlines(), bare(text)
         self.making, self.says, self.outside = making(variants)
-        self.found, self.made, self.reasons = [], 0, 0
+        self.found, self.made, self.reasons, self.others = [], 0, 0, []
 
     def line(self, place):
         """The number of the line of a place."""
@@ -102,6 +134,10 @@ class Reading:
             self.tell(found.start(), "-", "AllocError has another name, or gets a call of its own")
         for found in self.outside.finditer(self.text):
             self.tell(found.start(), "-", "a failure is made, or renamed, outside of a function")
+        for found in LET.finditer(self.text):
+            self.tell(found.start(), "-", "an AllocError has a name of its own")
+        for found in NUMBERED.finditer(self.text):
+            self.tell(found.start(), "-", "a failure of the system is made of a number")
         for found in FIELD.finditer(self.text):
             self.tell(found.start(), "-", "a field keeps an AllocError for later")
         for function in functions(self.text):
@@ -148,20 +184,51 @@ class Reading:
         elif found.group("variant") and name != "_" and name is not None:
             if not self.is_own(arm, name, place):
                 self.tell(place, function.name, f"{found.group()}({name}) is of no call's answer")
+            elif not self.answers(arm):
+                self.comes_of(function, place, arm.matched)
         elif found.group("variant") and CONVERTED.match(after):
             pass  # what is converted is judged where it stands
         elif not (found.group("variant") and (self.answers(arm) or self.is_mapped(place, after))):
             self.judge_reason(function, place, found, arm)
 
+    def comes_of(self, function, place, call):
+        """Keeps of which call a failure comes that isn't one of std's that allocates."""
+        names = re.findall(r"(\w+!?)(?:::<[^()]*>)?\s*(?=[(\[])", self.outside_brackets(call))
+        if not names or names[-1] not in STD:
+            other = f"{self.name}:{self.line(place)}: {function.name}: of {' '.join(call.split())}"
+            if other not in self.others:
+                self.others.append(other)
+
+    def outside_brackets(self, call):
+        """A call without what its brackets hold."""
+        kept, place = [], 0
+        while place < len(call):
+            end = end_of(call, place) if call[place] in "([{" else place + 1
+            kept.append(call[place:end] if end == place + 1 else call[place] + call[end - 1])
+            place = end
+        return "".join(kept)
+
+    def call_before(self, place):
+        """The call whose failure `.map_err(` hands to what stands at a place."""
+        end = self.text.rindex(".map_err(", 0, place)
+        first, depth = end, 0
+        while first > 0 and (depth or self.text[first - 1] not in ";{}=,([" or self.text[first - 1] in ")]"):
+            first -= 1
+            depth += {")": 1, "]": 1, "(": -1, "[": -1}.get(self.text[first], 0)
+        return self.text[first:end]
+
     def judge_conversion(self, function, place, found, arm, name):
         """Tells of a conversion of something that no call answered with."""
         if self.is_mapped(place, self.text[place + len(found.group()):]):
+            self.comes_of(function, place, self.call_before(place))
             return
         # of a type parameter only what an arm of a refusal binds is of interest
         if found.group("generic") and (name is None or "AllocError" not in self.text):
             return
         if not self.is_own(arm, name, place):
             self.tell(place, function.name, f"{' '.join(found.group().split())}({name or ''}) is of no call's answer")
+        else:
+            self.comes_of(function, place, arm.matched)
 
     def is_mapped(self, place, after):
         """Whether a call's failure is handed to what stands at a place, as in `.map_err(AllocError::from)`."""
@@ -196,6 +263,7 @@ class Reading:
         what = " ".join(found.group().split())
         inside = arm.first if arm else function.first
         tests = CONDITION.search(self.text[inside:self.begin_of(place, inside)])
+        called = arm.matched if arm else ""
         if tests:
             called = tests.group("called").strip()
             plain = is_call(called.removesuffix(".is_err()")) and (called.endswith(".is_err()") or tests.group("not"))
@@ -209,6 +277,7 @@ class Reading:
             self.tell(place, function.name, f"{what} is made, and no line `// No memory: ..` above says why")
         else:
             self.reasons += 1
+            self.comes_of(function, place, called.removesuffix(".is_err()"))
 
     def begin_of(self, place, inside):
         """Where the expression begins in which a failure is made: before `Err(` and such around it."""
@@ -224,15 +293,32 @@ class Reading:
 
     def read_room(self, function, body):
         """Tells of a request whose size is a number that the body made."""
-        asked = [(found.start(), found.group(2).split(",")[-1].strip()) for found in ROOM.finditer(body)]
+        asked = []
+        for found in ROOM.finditer(body):
+            sizes = [size.strip() for size in self.arguments(found.group(2))]
+            asked.append((found.start(), sizes[0] if found.group(1) in FIRST else sizes[-1]))
+        for found in UNSIZED.finditer(body):
+            self.tell(function.first + found.start(), function.name, f"how much {found.group(1)} asks for isn't known")
         asked += [(found.start(), found.group(1).strip()) for found in FILLED.finditer(body)]
         for at, size in asked:
             capped = re.search(r"\.min\((\d[\d_]*)\)$", size)
             of = re.match(r"(\w+)", size)
             given = of and re.search(rf"\b{of.group(1)}\s*:", function.head) and not re.search(rf"\blet\s+(?:mut\s+)?{of.group(1)}\b", body)
             small = re.fullmatch(r"\d[\d_]*", size) and int(size.replace("_", "")) <= 65536
-            if not (small or given and (re.fullmatch(r"\w+(?:\.len\(\))?", size) or capped and int(capped.group(1).replace("_", "")) <= 65536)):
+            if (self.name, size) in GIVEN or not size:
+                continue
+            if OVERSIZED.search(size) or not (small or given and (re.fullmatch(r"\w+(?:\.len\(\))?", size) or capped and int(capped.group(1).replace("_", "")) <= 65536)):
                 self.tell(function.first + at, function.name, f"it asks for room for {size}, which no caller gave")
+
+    def arguments(self, text):
+        """The arguments of a call, apart."""
+        found, place, begin = [], 0, 0
+        while place < len(text):
+            if text[place] == ",":
+                found.append(text[begin:place])
+                begin = place + 1
+            place = end_of(text, place) if text[place] in "([{" else place + 1
+        return [*found, text[begin:]]
 
     def read_told(self, function, its):
         """Tells of a want of memory that is told as something else."""

@@ -1,36 +1,37 @@
 #!/usr/bin/env bash
 # Runs all that no landing runs, one step after another, each to its end:
 #
-#     tools/before_release.sh           all steps
-#     tools/before_release.sh NAME..    these
-#     tools/before_release.sh --list    runs nothing, and prints each step and how long it takes
+#     release/before_release.sh           all steps
+#     release/before_release.sh NAME..    these
+#     release/before_release.sh --list    runs nothing, and prints each step and how long it takes
 #
 # It prints what each prints, the seconds that it took, and last `N passed, M failed` with the names of those that failed. The
 # status is 0 where none failed. Run it with nothing uncommitted, since the edits are tried in a copy of the last commit.
 set -u
+. "$(dirname "$0")/../tools/usage.sh"
 cd "$(dirname "$0")/.."
 
 # The name of a step, its command, and how long it takes on four cores.
 steps() {
     cat <<'END'
-version|tools/version.sh|at once
+version|release/version.sh|at once
 names|tools/gone_names|at once
 edits|tools/edits --release|an hour, and the proof of each crate that has some
-pairs|tools/release_pairs.sh|three builds of minutes each
-devices|tools/closed_devices.sh|a minute, once count_rows is proved
-tables|tools/table_runs.sh|a minute, once sum_table and sum_groups are proved
-groups|tools/groups_runs|minutes, once sum_groups is proved
-elf|tools/elf_runs|minutes, once elf_tables is proved
-pg|tools/pg_runs|2 minutes, once pg_rows is proved; wants PostgreSQL, cargo and GNU time
-pg_logins|tools/pg_logins|a minute; wants PostgreSQL, cargo and apt
-json|tools/json_runs|a minute, once json_tokens is proved
-memory|tools/refused_memory.sh|7 minutes
-speed|tools/speed.sh|the proof of fallible_speed, and then minutes
-elf_speed|tools/elf_speed|the proof of fallible_elf and elf_walk, and then minutes; wants cargo and valgrind
-program_speed|tools/program_speed.sh|5 minutes; wants count_rows, sum_table, sum_groups, pg_rows and json_tokens proved, cargo, valgrind, GNU time, jq, g++ and apt
-rust_speed|tools/rust_bench.sh|3 minutes; wants valgrind and apt
+pairs|release/release_pairs.sh|three builds of minutes each
+devices|release/closed_devices.sh|a minute, once count_rows is proved
+tables|release/table_runs.sh|a minute, once sum_table and sum_groups are proved
+groups|release/groups_runs|minutes, once sum_groups is proved
+elf|release/elf_runs|minutes, once elf_tables is proved
+pg|release/pg_runs|2 minutes, once pg_rows is proved; wants PostgreSQL, cargo and GNU time
+pg_logins|release/pg_logins|a minute; wants PostgreSQL, cargo and apt
+json|release/json_runs|a minute, once json_tokens is proved
+memory|release/refused_memory.sh|7 minutes
+speed|release/speed.sh|the proof of fallible_speed, and then minutes
+elf_speed|release/elf_speed|the proof of fallible_elf and elf_walk, and then minutes; wants cargo and valgrind
+program_speed|release/program_speed.sh|5 minutes; wants count_rows, sum_table, sum_groups, pg_rows and json_tokens proved, cargo, valgrind, GNU time, jq, g++ and apt
+rust_speed|release/rust_bench.sh|3 minutes; wants valgrind and apt
 beside|tools/rust_beside|3 minutes; wants cargo and apt
-clients|tools/rust_clients|a quarter of an hour and more; wants cargo, PostgreSQL, SQLite, libclang and apt
+clients|release/rust_clients|a quarter of an hour and more; wants cargo, PostgreSQL, SQLite, libclang and apt
 END
 }
 

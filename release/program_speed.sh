@@ -2,7 +2,7 @@
 # Measures the programs count_rows, sum_table, sum_groups, pg_rows and json_tokens beside the loops by hand of
 # release/program_loops, and compares what they print. json_tokens is measured beside `jq -c` and simdjson too.
 #
-#     tools/program_speed.sh [RUNS] [NAME..]
+#     release/program_speed.sh [RUNS] [NAME..]
 #
 # With names it measures these programs alone. It builds the loops by cargo, and what parses and prints by simdjson of Debian's
 # packages, fetched by apt into a folder of its own. The programs are crates/NAME/out/NAME, which `rt run <stdin` in crates/NAME proves and builds.
@@ -15,6 +15,7 @@
 # The status is 1 where an output differs from the program's or from crates/NAME/stdout, and otherwise 2 where a program is
 # not there.
 set -eu
+. "$(dirname "$0")/../tools/usage.sh"
 repository=$(cd "$(dirname "$0")/.." && pwd)
 runs=${1:-20}
 names=("${@:2}")

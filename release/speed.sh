@@ -1,10 +1,11 @@
 #!/usr/bin/env bash
 # Measures the chains of release/fallible_speed, each beside a loop written by hand, in a build that is proved first.
 #
-#     tools/speed.sh           prints for each chain the instructions for each number, by the loop, by a fold and by
+#     release/speed.sh           prints for each chain the instructions for each number, by the loop, by a fold and by
 #                              `next`: those of 200,000 numbers less those of none, by valgrind's callgrind
-#     tools/speed.sh times N   prints the times over N numbers, in hundredths of the loop's
+#     release/speed.sh times N   prints the times over N numbers, in hundredths of the loop's
 set -eu
+. "$(dirname "$0")/../tools/usage.sh"
 cd "$(dirname "$0")/.."
 copy=$(mktemp -d)
 trap 'rm -rf "$copy"' EXIT

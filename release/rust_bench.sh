@@ -1,7 +1,7 @@
 #!/usr/bin/env bash
 # Measures this repository's Rust crates beside others, by what each number takes.
 #
-#     tools/rust_bench.sh [--write] [chains|calls|compile|all [MADE_FOLDER [ORIGINAL_FOLDER]]]
+#     release/rust_bench.sh [--write] [chains|calls|compile|all [MADE_FOLDER [ORIGINAL_FOLDER]]]
 #
 # `chains` are those of release/rust-bench, over our fallible-iterator, over the original, and beside a loop written by hand.
 # `calls` are those of our fallible-itertools in release/rust-bench-itertools, over ours and over the original, beside those of
@@ -11,6 +11,7 @@
 # for each number, by a fold and by `next`: those of 200,000 numbers less those of none, by valgrind's callgrind. With --write
 # what `calls` and `compile` print goes into release/rust-bench/FIGURES.md too. The status is 1 where an answer differs.
 set -eu
+. "$(dirname "$0")/../tools/usage.sh"
 repository=$(cd "$(dirname "$0")/.." && pwd)
 writes=
 [ "${1:-}" != --write ] || { writes=yes; shift; }
@@ -161,8 +162,8 @@ shown() {
     [ -z "$writes" ] || python3 - "$1" "$table" "$repository/release/rust-bench/FIGURES.md" <<'END'
 import pathlib, sys
 name, table, page = sys.argv[1], pathlib.Path(sys.argv[2]), pathlib.Path(sys.argv[3])
-before, rest = page.read_text().split(f"<!-- made by tools/rust_bench.sh {name} -->\n")
-page.write_text(f"{before}<!-- made by tools/rust_bench.sh {name} -->\n{table.read_text()}<!-- end -->{rest.split('<!-- end -->', 1)[1]}")
+before, rest = page.read_text().split(f"<!-- made by release/rust_bench.sh {name} -->\n")
+page.write_text(f"{before}<!-- made by release/rust_bench.sh {name} -->\n{table.read_text()}<!-- end -->{rest.split('<!-- end -->', 1)[1]}")
 END
 }
 

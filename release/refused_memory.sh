@@ -2,10 +2,13 @@
 # Refuses each request for memory of each call of the program release/drive_refused_memory in turn, by the toolchain, and compares
 # what is printed with what is allowed. It proves nothing, and takes some seven minutes.
 #
+#     release/refused_memory.sh
+#
 # Run number N refuses the N-th request of each call. A call that meets it must print the outcome that `allowed` gives
 # for N. A call that makes fewer requests must have made as many as `requests` says, and must print its line of
 # release/drive_refused_memory/stdout. The status is 0 where every outcome is allowed.
 set -eu
+. "$(dirname "$0")/../tools/usage.sh"
 cd "$(dirname "$0")/.."
 work=$(mktemp -d)
 trap 'rm -rf "$work"' EXIT

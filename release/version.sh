@@ -2,7 +2,10 @@
 # Compares what names the version and the toolchain: the first heading of CHANGELOG.md with VERSION, README.md and the
 # toolchain that runs with KIT, and the tags with VERSION, which none may have yet. It prints each difference, and ends
 # with status 1 where there is one.
+#
+#     release/version.sh
 set -u
+. "$(dirname "$0")/../tools/usage.sh"
 cd "$(dirname "$0")/.."
 version=$(cat VERSION)
 kit=$(cat KIT)

@@ -3,9 +3,12 @@
 # its status and what it writes with what is wanted. It proves and builds the program first, where that is not done yet, or runs
 # that of `--program FILE`, as crates/count_rows/out/count_rows, which the gate leaves; with `--rust` it is that of rust/programs.
 # The status is 0 where every run is as wanted.
+#
+#     release/closed_devices.sh [--program FILE | --rust]
 set -eu
+. "$(dirname "$0")/../tools/usage.sh"
 cd "$(dirname "$0")/.."
-. tools/device_runs.sh
+. release/device_runs.sh
 
 build count_rows
 printf '100\n200\n400\n' >"$work/rows"

@@ -2,6 +2,8 @@
 # Drives each adapter over every other: release/pairs is laid over the program release/scripts, which is built, without a
 # proof, and run, in three parts, since one build of all would take more memory than a machine has:
 #
+#     release/release_pairs.sh [PART..]
+#
 #     library   the adapters of fallible_iterator over those of fallible_iterator
 #     above     those of fallible_itertools over those of fallible_iterator
 #     below     all over those of fallible_itertools
@@ -9,6 +11,7 @@
 # With names of parts it runs these alone. It prints a line for each adapter below, and each mismatch. The status is 0
 # where each part prints what release/pairs/PART.stdout says.
 set -eu
+. "$(dirname "$0")/../tools/usage.sh"
 cd "$(dirname "$0")/.."
 top=$PWD
 copy=$(mktemp -d)

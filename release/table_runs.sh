@@ -4,9 +4,12 @@
 # runs those of `--program FILE`, as crates/sum_table/out/sum_table, which the gate leaves; the word may come for each. With
 # `--rust` they are those of rust/programs.
 # The status is 0 where every run is as wanted.
+#
+#     release/table_runs.sh [--program FILE].. | [--rust]
 set -eu
+. "$(dirname "$0")/../tools/usage.sh"
 cd "$(dirname "$0")/.."
-. tools/device_runs.sh
+. release/device_runs.sh
 
 # One record, 1 and 258; a bad one, 3 and 2; three bytes of a third.
 printf '\1\0\0\0\2\1\0\0' >"$work/good"
