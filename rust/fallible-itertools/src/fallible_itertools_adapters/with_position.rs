@@ -44,7 +44,7 @@ impl<I: FallibleIterator> WithPosition<I> {
 // The fold by turns, by which `try_fold` goes.
 impl<I: FallibleIterator> WithPosition<I> {
     #[inline(always)]
-    fn fold_by<C, R, K: Turn<C, (Position, I::Item), R>>(
+    fn by_turns<C, R, K: Turn<C, (Position, I::Item), R>>(
         &mut self,
         state: &mut C,
         turn: &K,
