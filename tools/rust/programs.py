@@ -22,6 +22,8 @@ PACKAGE = "programs"
 WITHIN = ["fallible_elf", "fallible_rows", "fallible_table"]
 PROGRAMS = ["count_rows", "elf_tables", "json_tokens", "pg_rows", "sum_groups", "sum_table"]
 CRATES = [*LIBRARIES, PACKAGE]
+# A program by hand over one of them.
+CLIENT = "pg-login"
 # Those whose comments have the clauses.
 CONTRACTS = ["fallible-json", "fallible-pg"]
 LINTS = """#![forbid(unsafe_code)]
@@ -295,6 +297,9 @@ def every_file(top, docs, words):
         files["Cargo.toml"] = files["Cargo.toml"].replace("@NEEDED@", needed(files, crate))
         files.update(page.licences(top, False))
         out.update(("%s/%s" % (crate, path), s) for path, s in files.items())
+    client = {str(path.relative_to(STATIC / CLIENT)).removesuffix(".in"): path.read_text(encoding="utf-8")
+              for path in sorted((STATIC / CLIENT).rglob("*")) if path.is_file()}
+    out.update(("%s/%s" % (CLIENT, path), s) for path, s in {**client, **page.licences(top, False)}.items())
     return out, same
 
 
