@@ -192,6 +192,31 @@ class Refusals(unittest.TestCase):
         named = re.findall(r"\b[a-z]\w*[^\W_]\b", " ".join(re.findall(r"`([^`]*)`", " ".join(here))))
         self.assertEqual([name for name in named if name not in words], [])
 
+    def test_each_public_type_can_be_shown_and_most_cloned(self):
+        """`Debug` of each struct and enum that a root shows, and `Clone` of all but what reads, or has an error of std."""
+        self.assertEqual(self.run_it()[0], 0)
+        uncloned = {"Answer", "Buffered", "Lent", "Messages", "PgFault", "PgInput", "ReadFailed", "Rows", "RunFault", "Broken",
+                    # Closures that are kept need not be cloned.
+                    "FromFn"}
+        shown = set()
+        for crate in ("fallible-iterator", "fallible-itertools", "fallible-json", "fallible-pg"):
+            text = "\n".join(path.read_text() for path in sorted(self.out.glob("%s/src/**/*.rs" % crate)))
+            text += "\n".join(path.read_text() for path in sorted(self.out.glob("program-io/src/*.rs")))
+            root = (self.out / crate / "src/lib.rs").read_text()
+            for used in re.findall(r"^((?:#\[.*\]\n)*)pub use ([^;]*);", root, re.M):
+                for name in re.findall(r"\b[A-Z]\w*", used[1]) if "doc(hidden)" not in used[0] else ():
+                    declared = re.search(r"((?:^#\[[^\n]*(?:\n [^\n]*)*?\]\n)*)^pub (?:struct|enum) %s\b" % name, text, re.M)
+                    if not declared:
+                        continue
+                    shown.add(name)
+                    for trait in ("Debug", "Clone"):
+                        has = re.search(r"\b%s\b" % trait, declared.group(1)) or re.search(
+                            r"^impl\b[^{;]*\b%s\s+for %s\b" % (trait, name), text, re.M)
+                        if not has and not (trait == "Clone" and name in uncloned):
+                            self.fail("%s of %s has no %s" % (name, crate, trait))
+        self.assertTrue({"KMerge", "KMergeBy", "Tokens", "PlacedBytes", "Texts", "Rows", "Messages", "Cells", "Columns", "Buffered", "Lent",
+                         "Bytes", "Peekable"} <= shown, shown)
+
     def test_a_link_leads_out(self):
         self.out.mkdir()
         elsewhere = self.folder / "elsewhere"

@@ -9,7 +9,7 @@ use core::mem::replace;
 use fallible_iterator::FallibleIterator;
 
 /// Where an item stands among the items between two stops. A stop is `Ok(None)` or a failure.
-#[derive(Clone, Copy, Debug, PartialEq, Eq)]
+#[derive(Clone, Copy, Debug, PartialEq, Eq, Hash)]
 pub enum Position {
     /// the first of several items
     First,
