@@ -112,6 +112,8 @@ pub use program_io::reading::Buffered;
 pub use program_io::reading::{Bytes, Lent, ReadByte, ReadFailed};
 """,
 }
+# What the comment of a proved call says of its signature, where a call by hand has another.
+ALONE = [("As it is proved, in", "As it is proved, where its signature is another, in"), (" or `maker` has none", "")]
 # What no user needs of a root.
 HIDES = {"fallible-json": r"^pub use (?:json::MakeJson|making::MakeTexts|report::run|texts::Texts);\n|(?<=minifying::)\{Misplaced, minify\}|(?<=report::)\{Prints, run\}"}
 # In a manifest, where each crate is and what it is asked for.
@@ -234,7 +236,10 @@ def commented(s, files, place):
         found = [f for f in functions(text) if bodies.short(f) == name]
         if len(found) != 1:
             raise Refused("%s: `%s` stands %d times in %s" % (place, name, len(found), path))
-        return re.sub(r"^ +", "", text[found[0].docs[0]:found[0].docs[1]], flags=re.M)
+        said = re.sub(r"^ +", "", text[found[0].docs[0]:found[0].docs[1]], flags=re.M)
+        for old, new in ALONE:
+            said = said.replace(old, new)
+        return said
     return re.sub(r"^//= (\S+) (\S+)\n", of, s, flags=re.M)
 
 

@@ -20,7 +20,9 @@ LOADER.exec_module(TO_RUST)
 TO_RUST.formatted = lambda files: files
 CORE = "crates/fallible_core/src/"
 
+import failing
 import features
+import older
 import refusing
 from source import Text
 
@@ -188,6 +190,8 @@ class Refusals(unittest.TestCase):
             handed = (self.out / "fallible-itertools/src/lib.rs").read_text().split('#[cfg(feature = "%s")]\npub use ' % feature)[1:]
             functions = [name for used in handed for name in re.findall(r"\b[a-z]\w*(?=[,;}\s])", used.split(";")[0])]
             self.assertEqual(sorted(re.findall(r"`(\w+)`", listed)), sorted(calls + functions + ["alloc"] * (feature == "std")))
+            said = sum(path.read_text().count("/// Feature: `%s`." % feature) for path in self.out.glob("fallible-itertools/src/**/*.rs"))
+            self.assertEqual(said, len(calls + functions))
         here = [row.split(" | ")[1] for row in page.split("| Looked for |")[1].split("\n\n")[0].split("\n")[2:]]
         named = re.findall(r"\b[a-z]\w*[^\W_]\b", " ".join(re.findall(r"`([^`]*)`", " ".join(here))))
         self.assertEqual([name for name in named if name not in words], [])
@@ -239,6 +243,17 @@ class Programs(unittest.TestCase):
                      "use crate::memory::{AllocError, TryVec};"):
             self.assertIn(line, text.s)
         self.assertNotIn("alloc:", text.s)
+
+    def test_a_failed_read_is_handed_on_and_what_is_new_is_written_otherwise(self):
+        text = Text("of.rs", (
+            "#[derive(Clone, Copy, Debug)]\npub enum Broken {\n    /// A read failed.\n    Read,\n}\n\n"
+            "fn of(it: Result<u8, u8>) -> Result<u8, Broken> {\n    let Some(x) = two(it) else {\n        return Err(Broken::Read);\n    };\n"
+            "    match it {\n        Ok(_) => Ok(x),\n        Err(_) => Err(Broken::Read),\n    }\n}\n"))
+        failing.to_rust(text, "crate")
+        older.to_rust(text)
+        for line in ("#[derive(Debug)]\npub enum Broken", "Read(crate::reading::ReadFailed),", "Err(failed) => Err(Broken::Read(failed)),",
+                     "let x = match two(it) { Some(x) => x, _ => {", "return Err(Broken::Read(crate::reading::ReadFailed::new()));"):
+            self.assertIn(line, text.s)
 
     def test_what_needs_std_stands_behind_its_feature_with_all_that_names_it(self):
         texts = {"lib.rs": Text("lib.rs", "mod a;\n\npub use a::{below, told};\n"), "a.rs": Text("a.rs", (

@@ -15,7 +15,7 @@ use program_io::memory::{Fault, Global, TryVec};
 ///
 /// <details><summary>Contract</summary>
 ///
-/// As it is proved, in [these words](crate::words):
+/// As it is proved, where its signature is another, in [these words](crate::words):
 ///
 /// ```text
 /// ensures { MakesJson (refused self.now) text.now result }
@@ -58,7 +58,7 @@ impl<E: std::error::Error> std::error::Error for Unminified<E> {
 ///
 /// <details><summary>Contract</summary>
 ///
-/// As it is proved, in [these words](crate::words):
+/// As it is proved, where its signature is another, in [these words](crate::words):
 ///
 /// ```text
 /// requires can_next { I.contract.can_next tokens }
@@ -78,11 +78,11 @@ pub fn minify<I: FallibleIterator<Item = (usize, usize, Token)>>(
     }
 }
 
-/// Reads JSON texts up to the end of `reader`, which may be any reader of std, and writes each to `writer` without the blanks between its tokens, and a newline, as soon as it ends. It fails with `Input` at the first fault of a text, with `Read` where a read fails, or after 2 ^ 61 bytes, with `Memory` if that is for want of memory or `maker` has none, and with `Write` where the writer fails. What is printed of the bytes before a fault or a failed read is written first. An interrupted read is tried again.
+/// Reads JSON texts up to the end of `reader`, which may be any reader of std, and writes each to `writer` without the blanks between its tokens, and a newline, as soon as it ends. It fails with `Input` at the first fault of a text, with `Read` where a read fails, or after 2 ^ 61 bytes, with `Memory` if that is for want of memory, and with `Write` where the writer fails. What is printed of the bytes before a fault or a failed read is written first. An interrupted read is tried again.
 ///
 /// <details><summary>Contract</summary>
 ///
-/// As it is proved, in [these words](crate::words):
+/// As it is proved, where its signature is another, in [these words](crate::words):
 ///
 /// ```text
 /// ensures { ComesTo R.left (Fails R.left R.fails) reader.old reader.new (M.refused maker.now)
