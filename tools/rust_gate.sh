@@ -53,6 +53,8 @@ quietly cargo fmt --all --check --manifest-path "$folder/out/Cargo.toml"
 quietly cargo clippy "${all[@]}" --all-targets
 quietly cargo doc "${all[@]}" --no-deps
 quietly cargo test "${all[@]}"
+# What the one line of the README gives, which names no feature.
+quietly cargo test --offline --manifest-path "${crates[1]}" --test first_calls
 quietly cargo package --offline --no-verify --allow-dirty --quiet --manifest-path "${crates[0]}"
 quietly tools/word_runs --in "$CARGO_TARGET_DIR/debug"
 awk '/^test result/ { n += $4 } END { print "rust: " n " tests and doc tests pass" }' "$folder/log"

@@ -2,7 +2,7 @@
 is one crate over the original and over this repository's.
 
 - A draw by `draw` is one by `next`.
-- The hidden fold of an adapter moves out of its `impl` of the trait, unchanged, into one of the type's own, as `fold_by`.
+- The hidden fold of an adapter moves out of its `impl` of the trait, unchanged, into one of the type's own, as `by_turns`.
   That of any other iterator is in `base/drive.rs`, through its `try_fold`.
 - What the adapters and consumers are made of comes along from the first crate, as the private module `base`: each item that
   one of them names, and what it is made of."""
@@ -15,8 +15,9 @@ from page import HIDDEN
 from rules import apply
 from source import Refused, Text, after_braces, functions
 
-NAMES = {"drive": "fold_by", "drive_back": "fold_back_by"}
-TRAITS = {"fold_by": "Drive", "fold_back_by": "DriveBack"}
+NAMES = {"drive": "by_turns", "drive_back": "back_by_turns"}
+# No name is like one of a call, which rustc would name in its place.
+TRAITS = {"by_turns": "Drive", "back_by_turns": "DriveBack"}
 IMPL = re.compile(r"^impl\b[^{;]*?\s((?:DoubleEnded)?FallibleIterator\s+for\s)[^{]*\{", re.M)
 # What the second crate takes of the first: each version of the original has it.
 PUBLIC = {"DoubleEndedFallibleIterator", "Enumerate", "FallibleIterator", "Fuse", "IntoFallibleIterator", "Peekable"}

@@ -29,6 +29,7 @@ REASONS = [
     (r"until_failure\.rs", r"with_failure", "left out", "`collect_until_failure` is refused nothing"),
     (r"parted\.rs", r"without_fault", "left out", "`partition_failures` never fails"),
     (r"fallible_itertools_adapters/err_into\.rs", r"\w+ for ErrInto\.(clone|fmt)", "new", "what `derive_where` writes"),
+    (r"fallible_itertools_joins/kmerge(?:_by)?\.rs", r"\w+ for KMerge(?:By)?\.(clone|fmt)", "new", "what `derive_where` would write"),
     (r"partition_map\.rs", r".*\.empty", "left out", "`partition_map` fills whatever extends"),
     (r".*", r"\w+ for \w+\.try_r?fold", "new", "by the source's own, with what becomes of each item"),
     (r"fallible_core/passing\.rs", r"From for PassStop\.from|step_on_passed|passed_value|try_r?fold_passing", "new",
@@ -45,6 +46,7 @@ REASONS = [
     (r"fallible_itertools_adapters/peeking_take_while\.rs", r"none_held_or_accepts", "left out",
      "`next_accepted` of `Peekable` goes by `peek`"),
     (r"writing\.rs", r"WriteText for W\.write_text", "changed", "std's `write_fmt` takes what `format_args!` makes"),
+    (r"lexer\.rs", r"\w+ for Tokens\.(clone|fmt)", "new", "what `derive_where` would write"),
     (r"main\.rs", r"main", "new", "it calls the proved `main`, which is `started`"),
 ]
 

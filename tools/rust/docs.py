@@ -15,7 +15,7 @@ OF_A_KIND = re.compile(r"\brequires?\b|\bclauses?\b|\bproofs?\b|search finds|`Fa
 OTHER = {"collect", "partition", "unzip", "cycle", "chain", "counts", "counts_by", "fold_by_key", "sum", "product", "into_group_map", "into_group_map_by", "partition_map",
          "collect_until_failure", "partition_failures", "join", "sorted", "sorted_by", "sorted_by_key",
          "sorted_unstable", "sorted_unstable_by", "sorted_unstable_by_key",
-         "unique", "unique_by", "duplicates", "all_unique", "drive_recovering", "drive_back_recovering", "number_of_either"}
+         "unique", "unique_by", "duplicates", "all_unique", "kmerge", "kmerge_by", "into_option", "drive_recovering", "drive_back_recovering", "number_of_either"}
 
 
 def paragraph(line, at):

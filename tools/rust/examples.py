@@ -1,7 +1,9 @@
 """Examples of doc comments as doc tests: the lines of a test of `release/examples`, below what they import."""
 import re
+from functools import lru_cache
+from pathlib import Path
 
-from source import Refused, Text, read, tokens
+from source import Refused, Text, functions, read, tokens
 import tests
 
 SHOWN = "release/examples/src"
@@ -11,6 +13,16 @@ CALLS = {
     "IteratorExt": r"\binto_fallible\b|\btranspose_into_fallible\b",
     "DoubleEndedFallibleIterator": r"\bnext_back\b|\brev\b|\bt?r?y?_?rfold\b|\bdraw_(back|front)\b",
 }
+# Those whose calls are read from their source.
+READ = {"DoubleEndedFallibleItertools", "FallibleItertools", "PeekingNext"}
+
+
+@lru_cache(maxsize=None)
+def calls(trait):
+    """A pattern of the calls that a trait of `fallible-itertools` has."""
+    found = {f.name for path in (Path(__file__).resolve().parents[2] / "crates").glob("fallible_itertools*/src/**/*.rt")
+             for f in functions(path.read_text(encoding="utf-8")) if f.label == trait}
+    return r"\b(?:%s)\b" % "|".join(sorted(found))
 
 
 def dedented(lines):
@@ -75,4 +87,6 @@ def doc_test(shown, lines, at):
 
 def imported(name, words, want):
     """Whether the lines need an import: they have its name or, of a trait, one of its calls."""
+    if name in READ:
+        return re.search(calls(name), want)
     return re.search(CALLS[name], want) if name in CALLS else name in words or TRAITS.fullmatch(name)

@@ -7,6 +7,7 @@ PIECES = Path(__file__).parent / "static/pieces"
 CONTRACT, CORE, EVERY = r"fallible_contract(?:/.*)?\.rs", r"fallible_core(?:/.*)?\.rs", r".*"
 HEAD = """#![doc = include_str!("../README.md")]
 #![no_std]
+#![cfg_attr(docsrs, feature(doc_cfg))]
 #![forbid(unsafe_code)]
 #![warn(missing_docs)]
 // The bodies stay as they are proved.
@@ -67,8 +68,11 @@ ITERATOR = [
     (r"lib\.rs", r"\A(?://!.*\n)+\n",
      HEAD + "mod by_drive;\npub mod fallible_contract;\npub mod fallible_core;\npub mod memory;\n", 1),
     # What users need not see.
-    (r"lib\.rs", r"^pub mod (?!prelude)\w+;", r"#[doc(hidden)]\n\g<0>", 8),
-    (r"lib\.rs", r"^pub use .*(?:answers::|folds::Turn;|searching::Test;|\{Collect, Fault)", r"#[doc(hidden)]\n\g<0>", 4),
+    (r"lib\.rs", r"^pub (?=mod (?:conversion|sources|taking);)", "", 3),
+    (r"lib\.rs", r"^pub use .*searching::Test;\n", "", 1),
+    # What the repository's own tests name, some of which write hidden calls.
+    (r"lib\.rs", r"^pub mod (?!prelude)\w+;", r"#[doc(hidden)]\n\g<0>", 5),
+    (r"lib\.rs", r"^pub use .*(?:answers::|folds::Turn;|\{Collect, Fault)", r"#[doc(hidden)]\n\g<0>", 3),
 ]
 
 ADAPTERS, JOINS = r"fallible_itertools_adapters", r"fallible_itertools_joins"
@@ -106,6 +110,14 @@ ITERTOOLS = [
     (ADAPTERS + r"/err_into\.rs", r"\Z", (PIECES / "err_into.rs").read_text(encoding="utf-8"), 1),
     # Without its number it can be cloned and shown.
     (ADAPTERS + r"/stop_after\.rs", r"^pub struct StopAfter<", r"#[derive(Clone, Debug)]\n\g<0>", 1),
+    # What most types have.
+    (JOINS + r"/merge_tree\.rs", r"^(?=pub enum MergeTree<)", "#[derive(Clone, Debug)]\n", 1),
+    (JOINS + r"/kmerge\.rs", r"\Z", (PIECES / "kmerge.rs").read_text(encoding="utf-8"), 1),
+    (JOINS + r"/kmerge_by\.rs", r"\Z", (PIECES / "kmerge_by.rs").read_text(encoding="utf-8"), 1),
+    (r"minmax\.rs", r"^impl<T: Copy> MinMaxResult<T>", "impl<T: Clone> MinMaxResult<T>", 1),
+    (r"(?:minmax|partition_map|fold_while|exactly_one)\.rs", r"^(#\[derive\(Clone, Copy, Debug, PartialEq, Eq)\)\]", r"\1, Hash)]", 4),
+    (ADAPTERS + r"/with_position\.rs", r"^#\[derive\(Clone, Copy, Debug, PartialEq, Eq\)\]", "#[derive(Clone, Copy, Debug, PartialEq, Eq, Hash)]", 1),
+    (JOINS + r"/zip_longest\.rs", r"^#\[derive\(Clone, Debug, PartialEq, Eq\)\]", "#[derive(Clone, Copy, Debug, PartialEq, Eq, Hash)]", 1),
     # Imports.
     (r"all_unique\.rs", r"^use fallible_iterator::\{Fault, Turn\};", "use fallible_iterator::Turn;", 1),
     (r"sorted\.rs", r"^use fallible_iterator::Fault;", "use alloc::vec::Vec;", 1),

@@ -1,5 +1,6 @@
 """The page: what a Rust user has no use for is hidden, and who drops an iterator unused is warned."""
 import re
+from pathlib import Path
 
 from source import functions
 
@@ -15,6 +16,32 @@ def hide(text):
         if HIDDEN.fullmatch(f.name) and f.label and " for " not in f.label:
             start = text.s.rfind("\n", 0, f.start) + 1
             text.replace(start, start, "    #[doc(hidden)]\n")
+
+
+def licences(top, is_port):
+    """The texts of the two licences. The repository's tells last of what the library is a port, which one crate alone is."""
+    mit = (top / "LICENSE").read_text(encoding="utf-8")
+    return {"LICENSE-MIT": mit if is_port else mit.split("\nThis is a port")[0],
+            "LICENSE-APACHE": (Path(__file__).parent / "static/LICENSE-APACHE").read_text(encoding="utf-8")}
+
+
+def needs(files):
+    """Has the comment of each call that a feature alone has say so, below its first sentence. `files` are texts as they are written."""
+    handed = [(m.group(1), name) for m in re.finditer(r'^#\[cfg\(feature = "(\w+)"\)\]\s*pub use ([^;]*);', files["lib.rs"], re.M)
+              for name in re.findall(r"\b[a-z]\w*\b(?!::)", m.group(2))]
+    rules = [(r"((?:^    ///.*\n)+)(?=    #\[cfg\(feature = \"(\w+)\"\)\]\n    fn \w+)", None)]
+    rules += [(r"((?:^///.*\n)+)(?=pub fn %s\b)" % name, feature) for feature, name in handed]
+    for path, s in files.items():
+        for pattern, feature in rules:
+            s = re.sub(pattern, lambda m: told(m.group(1), feature or m.group(2)), s, flags=re.M)
+        files[path] = s
+
+
+def told(comment, feature):
+    """A comment with the feature that its call needs."""
+    indent = comment[:comment.index("/")]
+    first, blank, rest = comment.partition("%s///\n" % indent)
+    return "%s%s///\n%s/// Feature: `%s`.\n%s%s" % (first, indent, indent, feature, blank, rest)
 
 
 def to_rust(files):

@@ -7,10 +7,13 @@ import bodies
 import compare
 import counters
 import erase
+import failing
+import older
+import page
 import refusing
 from examples import use_names
 from features import Crate
-from source import Refused, Text, read
+from source import Refused, Text, functions, read
 
 STATIC = Path(__file__).parent / "static"
 # The crates, each with the Rattle libraries that it is made of, and its programs.
@@ -19,8 +22,8 @@ PACKAGE = "programs"
 WITHIN = ["fallible_elf", "fallible_rows", "fallible_table"]
 PROGRAMS = ["count_rows", "elf_tables", "json_tokens", "pg_rows", "sum_groups", "sum_table"]
 CRATES = [*LIBRARIES, PACKAGE]
-# Rattle has chains of `if let`, which Rust has from this edition on.
-EDITION = "2024"
+# A program by hand over one of them.
+CLIENT = "pg-login"
 # Those whose comments have the clauses.
 CONTRACTS = ["fallible-json", "fallible-pg"]
 LINTS = """#![forbid(unsafe_code)]
@@ -29,7 +32,8 @@ LINTS = """#![forbid(unsafe_code)]
 """
 HEAD = """#![doc = include_str!("../README.md")]
 #![no_std]
-#![warn(missing_docs)]
+#![cfg_attr(docsrs, feature(doc_cfg))]
+#![warn(missing_debug_implementations, missing_docs)]
 %s#![cfg_attr(not(feature = "std"), allow(dead_code, unused_imports))]
 
 extern crate alloc;
@@ -56,6 +60,62 @@ WORD = [
     (r" ?\bIt states no bound, so it is drained through `take`\.", ""),
     (r" ?\(`law_\w+`\)", ""),
 ]
+# Calls that have another name, since that is what a user of Rust looks for first.
+RENAMED = [(r"\bfn new(?=\(reader: R\) -> Messages<R>)", "fn unbuffered"), (r"\bMessages::new\(", "Messages::unbuffered(")]
+# What most types have: of each, by its name.
+DERIVED = {
+    "Debug": "Lent Buffered Messages Rows Refusal Input Given", "Clone, Debug": "PlacedBytes Texts Nesting Cells Columns Bytes",
+    "Clone, Debug, PartialEq, Eq": "Message Row Reply",
+}
+DERIVES = [(r"^(?:#\[derive\(Debug\)\]\n|(?<!#\[derive\(Debug\)\]\n))(?=pub(?:\(crate\))? (?:struct|enum) (?:%s)\b)" % names.replace(" ", "|"), "#[derive(%s)]\n" % traits)
+         for traits, names in DERIVED.items()]
+WORD += [(r"^#\[derive\(Clone, Copy(?:, PartialEq, Eq)?(?=\)\]\npub\(crate\) enum (?:Container|Expects)\b)", r"\g<0>, Debug"),
+         (r"(?s)\A.*^pub struct Tokens<.*\Z", r"\g<0>" + (STATIC / "pieces/tokens.rs").read_text(encoding="utf-8")),
+         # What is written by hand uses it too.
+         (r"^fn (?=(?:field|is_copy|is_call)\()", "pub(crate) fn "),
+         # A reader of std has no buffer that it tells of.
+         (r"^( *)/// The messages of this reader\. It reads nothing\.(?=\n(?:.*\n)*? *pub fn new\(reader: R\) -> Messages<R>)",
+          r"\1/// The messages of this reader, with no buffer before it: a reader of std is asked for one byte a call, and no byte after a message is read. It reads nothing."),
+         *RENAMED,
+         (r"^use fallible_json::\{MakeTexts, Prints, run\};", "use fallible_json::Prints;\nuse fallible_json::programs::{MakeTexts, run};")]
+# What stands in a crate by hand: its modules, and what its root shows.
+OWN = {
+    "program-io": 'mod errors;\nmod failed;\npub mod memory;\n#[cfg(feature = "std")]\npub mod runtime;\n',
+    "fallible-json": "mod calls;\nmod errors;\n",
+    "fallible-pg": '#[cfg(feature = "std")]\nmod buffering;\nmod errors;\n',
+}
+SHOWS = {
+    "fallible-json": """
+pub use calls::{Texts, Unminified, json_of, minify};
+#[cfg(feature = "std")]
+pub use calls::run;
+#[cfg(feature = "std")]
+pub use program_io::fault::RunFault;
+pub use program_io::memory::{AllocError, Fault};
+#[cfg(feature = "std")]
+pub use program_io::reading::ReadFailed;
+
+// What the program `json_tokens` goes by.
+#[cfg(feature = "std")]
+#[doc(hidden)]
+pub mod programs {
+    pub use crate::making::MakeTexts;
+    pub use crate::report::run;
+}
+""",
+    "fallible-pg": """
+#[cfg(feature = "std")]
+pub use program_io::fault::RunFault;
+pub use program_io::memory::AllocError;
+#[cfg(feature = "std")]
+pub use program_io::reading::Buffered;
+pub use program_io::reading::{Bytes, Lent, ReadByte, ReadFailed};
+""",
+}
+# What the comment of a proved call says of its signature, where a call by hand has another.
+ALONE = [("As it is proved, in", "As it is proved, where its signature is another, in"), (" or `maker` has none", "")]
+# What no user needs of a root.
+HIDES = {"fallible-json": r"^pub use (?:json::MakeJson|making::MakeTexts|report::run|texts::Texts);\n|(?<=minifying::)\{Misplaced, minify\}|(?<=report::)\{Prints, run\}"}
 # In a manifest, where each crate is and what it is asked for.
 NEEDED = {
     "fallible_iterator": 'fallible-iterator = { version = ">=0.2, <0.4", default-features = false }',
@@ -90,6 +150,7 @@ def of_std(text, no_std):
     replaced(text, SHOWN + WORD)
     if not no_std:
         return
+    replaced(text, DERIVES)
     replaced(text, [(r"\bstd::(?!(?:io|env|fs|process|net|time|error|os|thread|collections|string|vec|boxed)\b)(?=\w)", "core::"),
                     (r"\bstd::(?=(?:string|vec|boxed)::)", "alloc::")])
     rest = re.sub(r"//.*", "", text.s)
@@ -125,6 +186,8 @@ def made(top, crate, name, docs, home, no_std):
     refusing.to_rust(files, home)
     traits = TRAITS | set(re.findall(r"\btrait (\w+)", "\n".join(p.read_text(encoding="utf-8") for p in (top / "crates").glob("*/src/**/*.rt"))))
     for text in files.values():
+        failing.to_rust(text, home)
+        older.to_rust(text)
         of_std(text, no_std)
     whole = re.sub(r"^use [^;]*;", "", "\n".join(text.s for text in files.values()), flags=re.M)
     for text in files.values():
@@ -133,14 +196,16 @@ def made(top, crate, name, docs, home, no_std):
         begun(files["main.rs"])
     written = {path: Text(text.place, docs.rewrite(text, proved[path] if crate in CONTRACTS else "")) for path, text in files.items()}
     same = compare.compare({path: text.s for path, text in written.items()},
-                           {path: renamed(path, s, owned, whole) for path, s in proved.items()}, why)
+                           {path: renamed(path, s, owned, whole, home) for path, s in proved.items()}, why)
     return written, same
 
 
-def renamed(path, s, owned, whole):
+def renamed(path, s, owned, whole, home):
     """A proved file as it is but for allocators and names."""
     text = Text(path, refusing.renamed(path, s, owned, whole))
-    replaced(text, SHOWN + [(r"^fn main\(rt: HostRuntime\)", "fn started(rt: HostRuntime)")])
+    failing.to_rust(text, home)
+    older.to_rust(text)
+    replaced(text, SHOWN + RENAMED + [(r"^fn main\(rt: HostRuntime\)", "fn started(rt: HostRuntime)")])
     return text.s
 
 
@@ -150,15 +215,32 @@ def library(top, crate, docs, outside):
     files, same = made(top, crate, name, docs, "crate" if crate == "program-io" else "program_io", True)
     root = files["lib.rs"]
     head = re.match(r"(?://!.*\n)+\n?", root.s)
-    own = {"memory": "", "runtime": '#[cfg(feature = "std")]\n'} if crate == "program-io" else {}
-    root.replace(0, head.end() if head else 0, HEAD + "".join("%spub mod %s;\n" % (cfg, mod) for mod, cfg in own.items())
-                 + "#[cfg(doc)]\npub mod words;\n" * (crate in CONTRACTS))
-    if crate != "program-io":
-        root.replace(len(root.s), len(root.s), "\n#[doc(no_inline)]\npub use program_io;\n")
+    root.replace(0, head.end() if head else 0, HEAD + OWN[crate] + "#[cfg(doc)]\npub mod words;\n" * (crate in CONTRACTS))
+    for m in reversed(list(re.finditer(HIDES.get(crate, r"\A\Z\A"), root.s, re.M))):
+        root.replace(m.start(), m.end(), re.sub(r"\{(\w+), \w+\}|.*\n", r"\1", m.group()))
     split = Crate(files, outside | ({"crate::runtime::" + x for x in "Args Env File Files OpenFile env".split()}))
     split.mark()
+    root.replace(len(root.s), len(root.s), SHOWS.get(crate, ""))
     outside |= split.exported(name)
-    return {"src/" + path: text.s for path, text in files.items()}, same
+    made_of = {"src/" + path: text.s for path, text in files.items()}
+    for path in (STATIC / crate / "src").glob("*.rs"):
+        made_of["src/" + path.name] = commented(path.read_text(encoding="utf-8"), made_of, path)
+    return made_of, same
+
+
+def commented(s, files, place):
+    """A file by hand, in which a call has the comment of the proved one that it stands for: `//= json.rs MakeJson.json_of`."""
+    def of(m):
+        path, name = m.group(1, 2)
+        text = files.get("src/" + path, "")
+        found = [f for f in functions(text) if bodies.short(f) == name]
+        if len(found) != 1:
+            raise Refused("%s: `%s` stands %d times in %s" % (place, name, len(found), path))
+        said = re.sub(r"^ +", "", text[found[0].docs[0]:found[0].docs[1]], flags=re.M)
+        for old, new in ALONE:
+            said = said.replace(old, new)
+        return said
+    return re.sub(r"^//= (\S+) (\S+)\n", of, s, flags=re.M)
 
 
 def within(text, name):
@@ -215,11 +297,14 @@ def every_file(top, docs, words):
             files["src/words.rs"] = words
         for path in sorted((STATIC / crate).rglob("*")):
             rel = str(path.relative_to(STATIC / crate))
-            if path.is_file():
+            if path.is_file() and rel.removesuffix(".in") not in files:
                 files[rel.removesuffix(".in")] = path.read_text(encoding="utf-8")
         files["Cargo.toml"] = files["Cargo.toml"].replace("@NEEDED@", needed(files, crate))
-        files["LICENSE"] = (top / "LICENSE").read_text(encoding="utf-8")
+        files.update(page.licences(top, False))
         out.update(("%s/%s" % (crate, path), s) for path, s in files.items())
+    client = {str(path.relative_to(STATIC / CLIENT)).removesuffix(".in"): path.read_text(encoding="utf-8")
+              for path in sorted((STATIC / CLIENT).rglob("*")) if path.is_file()}
+    out.update(("%s/%s" % (CLIENT, path), s) for path, s in {**client, **page.licences(top, False)}.items())
     return out, same
 
 
@@ -231,5 +316,5 @@ def table(same):
         once = {reason: list(dict.fromkeys(names)) for reason, names in rows.items()}
         for how, lines in compare.listed(once, " of `%s`" % crate).items():
             others.setdefault(how, []).extend(lines)
-    return "\n\n".join(["Of the crates of programs these bodies are word for word the proved ones, but for allocators and the names of calls that may be "
-                        "refused memory: %s. These are not." % alike, *compare.parts(others)])
+    return "\n\n".join(["Of the crates of programs these bodies are word for word the proved ones, but for allocators, names of calls, what a failed "
+                        "read keeps, and `let .. else`, which is a `match`: %s. These are not." % alike, *compare.parts(others)])

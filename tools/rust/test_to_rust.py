@@ -20,7 +20,9 @@ LOADER.exec_module(TO_RUST)
 TO_RUST.formatted = lambda files: files
 CORE = "crates/fallible_core/src/"
 
+import failing
 import features
+import older
 import refusing
 from source import Text
 
@@ -188,9 +190,36 @@ class Refusals(unittest.TestCase):
             handed = (self.out / "fallible-itertools/src/lib.rs").read_text().split('#[cfg(feature = "%s")]\npub use ' % feature)[1:]
             functions = [name for used in handed for name in re.findall(r"\b[a-z]\w*(?=[,;}\s])", used.split(";")[0])]
             self.assertEqual(sorted(re.findall(r"`(\w+)`", listed)), sorted(calls + functions + ["alloc"] * (feature == "std")))
+            said = sum(path.read_text().count("/// Feature: `%s`." % feature) for path in self.out.glob("fallible-itertools/src/**/*.rs"))
+            self.assertEqual(said, len(calls + functions))
         here = [row.split(" | ")[1] for row in page.split("| Looked for |")[1].split("\n\n")[0].split("\n")[2:]]
         named = re.findall(r"\b[a-z]\w*[^\W_]\b", " ".join(re.findall(r"`([^`]*)`", " ".join(here))))
         self.assertEqual([name for name in named if name not in words], [])
+
+    def test_each_public_type_can_be_shown_and_most_cloned(self):
+        """`Debug` of each struct and enum that a root shows, and `Clone` of all but what reads, or has an error of std."""
+        self.assertEqual(self.run_it()[0], 0)
+        uncloned = {"Answer", "Buffered", "Lent", "Messages", "PgFault", "PgInput", "ReadFailed", "Rows", "RunFault", "Broken",
+                    # Closures that are kept need not be cloned.
+                    "FromFn"}
+        shown = set()
+        for crate in ("fallible-iterator", "fallible-itertools", "fallible-json", "fallible-pg"):
+            text = "\n".join(path.read_text() for path in sorted(self.out.glob("%s/src/**/*.rs" % crate)))
+            text += "\n".join(path.read_text() for path in sorted(self.out.glob("program-io/src/*.rs")))
+            root = (self.out / crate / "src/lib.rs").read_text()
+            for used in re.findall(r"^((?:#\[.*\]\n)*)pub use ([^;]*);", root, re.M):
+                for name in re.findall(r"\b[A-Z]\w*", used[1]) if "doc(hidden)" not in used[0] else ():
+                    declared = re.search(r"((?:^#\[[^\n]*(?:\n [^\n]*)*?\]\n)*)^pub (?:struct|enum) %s\b" % name, text, re.M)
+                    if not declared:
+                        continue
+                    shown.add(name)
+                    for trait in ("Debug", "Clone"):
+                        has = re.search(r"\b%s\b" % trait, declared.group(1)) or re.search(
+                            r"^impl\b[^{;]*\b%s\s+for %s\b" % (trait, name), text, re.M)
+                        if not has and not (trait == "Clone" and name in uncloned):
+                            self.fail("%s of %s has no %s" % (name, crate, trait))
+        self.assertTrue({"KMerge", "KMergeBy", "Tokens", "PlacedBytes", "Texts", "Rows", "Messages", "Cells", "Columns", "Buffered", "Lent",
+                         "Bytes", "Peekable"} <= shown, shown)
 
     def test_a_link_leads_out(self):
         self.out.mkdir()
@@ -214,6 +243,17 @@ class Programs(unittest.TestCase):
                      "use crate::memory::{AllocError, TryVec};"):
             self.assertIn(line, text.s)
         self.assertNotIn("alloc:", text.s)
+
+    def test_a_failed_read_is_handed_on_and_what_is_new_is_written_otherwise(self):
+        text = Text("of.rs", (
+            "#[derive(Clone, Copy, Debug)]\npub enum Broken {\n    /// A read failed.\n    Read,\n}\n\n"
+            "fn of(it: Result<u8, u8>) -> Result<u8, Broken> {\n    let Some(x) = two(it) else {\n        return Err(Broken::Read);\n    };\n"
+            "    match it {\n        Ok(_) => Ok(x),\n        Err(_) => Err(Broken::Read),\n    }\n}\n"))
+        failing.to_rust(text, "crate")
+        older.to_rust(text)
+        for line in ("#[derive(Debug)]\npub enum Broken", "Read(crate::reading::ReadFailed),", "Err(failed) => Err(Broken::Read(failed)),",
+                     "let x = match two(it) { Some(x) => x, _ => {", "return Err(Broken::Read(crate::reading::ReadFailed::new()));"):
+            self.assertIn(line, text.s)
 
     def test_what_needs_std_stands_behind_its_feature_with_all_that_names_it(self):
         texts = {"lib.rs": Text("lib.rs", "mod a;\n\npub use a::{below, told};\n"), "a.rs": Text("a.rs", (

@@ -1,5 +1,6 @@
 #![doc = include_str!("../README.md")]
 #![no_std]
+#![cfg_attr(docsrs, feature(doc_cfg))]
 #![forbid(unsafe_code)]
 #![warn(missing_docs)]
 // The bodies stay as they are proved.
@@ -20,8 +21,7 @@ extern crate std;
 #[doc(hidden)]
 pub mod batch;
 mod by_drive;
-#[doc(hidden)]
-pub mod conversion;
+mod conversion;
 #[doc(hidden)]
 pub mod extending;
 #[doc(hidden)]
@@ -31,10 +31,8 @@ pub mod fallible_core;
 #[doc(hidden)]
 pub mod memory;
 pub mod prelude;
-#[doc(hidden)]
-pub mod sources;
-#[doc(hidden)]
-pub mod taking;
+mod sources;
+mod taking;
 #[cfg(doc)]
 pub mod words;
 
@@ -42,8 +40,6 @@ pub mod words;
 pub use crate::fallible_contract::answers::{Answer, Side};
 #[doc(hidden)]
 pub use crate::fallible_contract::folds::Turn;
-#[doc(hidden)]
-pub use crate::fallible_contract::searching::Test;
 #[doc(hidden)]
 pub use crate::fallible_contract::{Collect, Fault};
 pub use crate::fallible_core::{

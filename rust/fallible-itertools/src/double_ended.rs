@@ -31,7 +31,7 @@ where
         return Ok(None);
     }
     let mut number = 0;
-    match it.fold_by(&mut number, &CountTurn) {
+    match it.by_turns(&mut number, &CountTurn) {
         Ok(None) => Ok(Some(number)),
         Ok(Some(never)) => match never {},
         Err(e) => Err(e),
@@ -47,7 +47,6 @@ pub trait DoubleEndedFallibleItertools: DoubleEndedFallibleIterator + Sized {
     /// ```
     /// # use fallible_iterator::{DoubleEndedFallibleIterator, FallibleIterator, convert};
     /// # use fallible_itertools::DoubleEndedFallibleItertools;
-    /// # use fallible_itertools::FallibleItertools;
     /// let mut it = convert([Ok::<u32, u8>(1), Ok(2), Ok(3)].into_iter());
     /// assert_eq!(it.nth_back(1), Ok(Some(2)));
     /// assert_eq!(it.next_back(), Ok(Some(1)));
@@ -82,7 +81,6 @@ pub trait DoubleEndedFallibleItertools: DoubleEndedFallibleIterator + Sized {
     /// ```
     /// # use fallible_iterator::{DoubleEndedFallibleIterator, FallibleIterator, convert};
     /// # use fallible_itertools::DoubleEndedFallibleItertools;
-    /// # use fallible_itertools::FallibleItertools;
     /// let mut it = convert([Ok::<u32, u8>(150), Ok(700), Ok(7)].into_iter());
     /// assert_eq!(it.rfind(|reading| Ok(*reading > 100)), Ok(Some(700)));
     /// assert_eq!(it.next_back(), Ok(Some(150)));
@@ -115,7 +113,7 @@ pub trait DoubleEndedFallibleItertools: DoubleEndedFallibleIterator + Sized {
         F: FnMut(&Self::Item) -> Result<bool, Self::Error>,
     {
         let mut f = f;
-        found(self.fold_back_by(&mut f, &FindTurn { test: &FindTest }))
+        found(self.back_by_turns(&mut f, &FindTurn { test: &FindTest }))
     }
 
     /// Returns how many items come before the last one on which the predicate returns true; `Ok(None)` if there is none.
@@ -129,7 +127,6 @@ pub trait DoubleEndedFallibleItertools: DoubleEndedFallibleIterator + Sized {
     /// ```
     /// # use fallible_iterator::{FallibleIterator, convert};
     /// # use fallible_itertools::DoubleEndedFallibleItertools;
-    /// # use fallible_itertools::FallibleItertools;
     /// let mut it = convert([Ok::<u32, u8>(150), Ok(700), Ok(7)].into_iter());
     /// assert_eq!(it.rposition(|reading| Ok(reading > 100)), Ok(Some(1)));
     /// ```
@@ -158,7 +155,7 @@ pub trait DoubleEndedFallibleItertools: DoubleEndedFallibleIterator + Sized {
         F: FnMut(Self::Item) -> Result<bool, Self::Error>,
     {
         let mut f = f;
-        let found = answer_or(self.fold_back_by(&mut f, &AnyTurn), false);
+        let found = answer_or(self.back_by_turns(&mut f, &AnyTurn), false);
         number_left_if(self, found)
     }
 }

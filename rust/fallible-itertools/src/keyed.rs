@@ -15,7 +15,7 @@ pub(crate) struct Keyed<I, F> {
 // The fold by turns, by which `try_fold` goes.
 impl<I: FallibleIterator, K, F: FnMut(&I::Item) -> Result<K, I::Error>> Keyed<I, F> {
     #[inline(always)]
-    fn fold_by<C, R, T: Turn<C, (K, I::Item), R>>(
+    fn by_turns<C, R, T: Turn<C, (K, I::Item), R>>(
         &mut self,
         state: &mut C,
         turn: &T,

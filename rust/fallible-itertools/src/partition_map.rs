@@ -4,7 +4,7 @@ use crate::base::AllocError;
 use crate::base::Collect;
 
 /// A value of the left or of the right.
-#[derive(Clone, Copy, Debug, PartialEq, Eq)]
+#[derive(Clone, Copy, Debug, PartialEq, Eq, Hash)]
 pub enum Either<A, B> {
     /// a value of the left
     Left(A),

@@ -75,7 +75,6 @@ pub trait FallibleItertools: FallibleIterator + Sized {
     /// ```
     /// # use fallible_iterator::{FallibleIterator, convert};
     /// # use fallible_itertools::FallibleItertools;
-    /// # use fallible_itertools::PeekingNext;
     /// let readings = [Ok::<u32, u8>(100), Ok(50), Ok(7), Ok(8)];
     /// let mut it = convert(readings.into_iter()).coalesce(|first, second| {
     ///     Ok(if second < first {
@@ -121,7 +120,6 @@ pub trait FallibleItertools: FallibleIterator + Sized {
     /// ```
     /// # use fallible_iterator::{FallibleIterator, convert};
     /// # use fallible_itertools::FallibleItertools;
-    /// # use fallible_itertools::PeekingNext;
     /// let readings = [Ok::<u32, u8>(150), Ok(157), Err(9), Ok(158), Ok(7)];
     /// let mut it = convert(readings.into_iter()).dedup_by_key(|reading| Ok(*reading / 10));
     /// let drawn = [it.next(), it.next(), it.next(), it.next()];
@@ -162,7 +160,6 @@ pub trait FallibleItertools: FallibleIterator + Sized {
     /// ```
     /// # use fallible_iterator::{FallibleIterator, convert};
     /// # use fallible_itertools::FallibleItertools;
-    /// # use fallible_itertools::PeekingNext;
     /// let readings = [Ok::<u32, u8>(150), Ok(157), Ok(7)];
     /// let mut it = convert(readings.into_iter()).dedup_by(|first, second| Ok(
     ///     *first / 10 == *second / 10,
@@ -200,7 +197,6 @@ pub trait FallibleItertools: FallibleIterator + Sized {
     /// ```
     /// # use fallible_iterator::{FallibleIterator, convert};
     /// # use fallible_itertools::FallibleItertools;
-    /// # use fallible_itertools::PeekingNext;
     /// let readings = [Ok::<u32, u8>(7), Ok(7), Ok(150), Ok(7)];
     /// let mut it = convert(readings.into_iter()).dedup();
     /// let drawn = [it.next(), it.next(), it.next(), it.next()];
@@ -233,7 +229,6 @@ pub trait FallibleItertools: FallibleIterator + Sized {
     /// ```
     /// # use fallible_iterator::{FallibleIterator, convert};
     /// # use fallible_itertools::FallibleItertools;
-    /// # use fallible_itertools::PeekingNext;
     /// let readings = [Ok::<u32, u8>(7), Ok(7), Ok(150), Err(9), Ok(150)];
     /// let mut it = convert(readings.into_iter()).dedup_with_count();
     /// let drawn = [it.next(), it.next(), it.next(), it.next()];
@@ -269,7 +264,6 @@ pub trait FallibleItertools: FallibleIterator + Sized {
     /// ```
     /// # use fallible_iterator::{FallibleIterator, convert};
     /// # use fallible_itertools::FallibleItertools;
-    /// # use fallible_itertools::PeekingNext;
     /// let readings = [Ok::<u32, u8>(150), Ok(157), Ok(7)];
     /// let mut it = convert(readings.into_iter()).dedup_by_with_count(|first, second| Ok(
     ///     *first / 10 == *second / 10,
@@ -308,7 +302,6 @@ pub trait FallibleItertools: FallibleIterator + Sized {
     /// ```
     /// # use fallible_iterator::{FallibleIterator, convert};
     /// # use fallible_itertools::FallibleItertools;
-    /// # use fallible_itertools::PeekingNext;
     /// # use fallible_itertools::Position;
     /// let letters = [Ok::<char, u8>('a'), Ok('b'), Ok('c')];
     /// let mut it = convert(letters.into_iter()).with_position();
@@ -341,7 +334,6 @@ pub trait FallibleItertools: FallibleIterator + Sized {
     /// ```
     /// # use fallible_iterator::{FallibleIterator, convert};
     /// # use fallible_itertools::FallibleItertools;
-    /// # use fallible_itertools::PeekingNext;
     /// let readings = [Ok::<u32, u8>(150), Ok(7), Ok(700)];
     /// let mut it = convert(readings.into_iter()).tuple_windows();
     /// let drawn = [it.next(), it.next(), it.next()];
@@ -383,7 +375,6 @@ pub trait FallibleItertools: FallibleIterator + Sized {
     /// ```
     /// # use fallible_iterator::{FallibleIterator, convert};
     /// # use fallible_itertools::FallibleItertools;
-    /// # use fallible_itertools::PeekingNext;
     /// let readings = [Ok::<u32, u8>(150), Err(9), Ok(7), Ok(700)];
     /// let mut it = convert(readings.into_iter()).tuples();
     /// let drawn = [it.next(), it.next(), it.next()];
@@ -416,7 +407,6 @@ pub trait FallibleItertools: FallibleIterator + Sized {
     ///
     /// ```
     /// # use fallible_iterator::{FallibleIterator, convert};
-    /// # use fallible_itertools::DoubleEndedFallibleItertools;
     /// # use fallible_itertools::FallibleItertools;
     /// let mut it = convert([Ok::<u32, &str>(7), Ok(150), Ok(8)].into_iter());
     /// let tried: Result<(), &str> = it.try_for_each(|reading: u32| {
@@ -456,7 +446,7 @@ pub trait FallibleItertools: FallibleIterator + Sized {
         F: FnMut(Self::Item) -> Result<(), E>,
     {
         let mut f = f;
-        answer_or(converted(self.fold_by(&mut f, &ForEachTurn)), ())
+        answer_or(converted(self.by_turns(&mut f, &ForEachTurn)), ())
     }
 
     /// Returns the first item on which the predicate returns true. The predicate fails with an error of its own.
@@ -467,7 +457,6 @@ pub trait FallibleItertools: FallibleIterator + Sized {
     ///
     /// ```
     /// # use fallible_iterator::{FallibleIterator, convert};
-    /// # use fallible_itertools::DoubleEndedFallibleItertools;
     /// # use fallible_itertools::FallibleItertools;
     /// let mut it = convert([Ok::<u32, &str>(0), Ok(7), Ok(150)].into_iter());
     /// let mut find = || -> Result<Option<u32>, &str> {
@@ -511,7 +500,7 @@ pub trait FallibleItertools: FallibleIterator + Sized {
     {
         let mut f = f;
         found(converted(
-            self.fold_by(&mut f, &FindTurn { test: &FindTest }),
+            self.by_turns(&mut f, &FindTurn { test: &FindTest }),
         ))
     }
 
@@ -523,7 +512,6 @@ pub trait FallibleItertools: FallibleIterator + Sized {
     ///
     /// ```
     /// # use fallible_iterator::{FallibleIterator, convert};
-    /// # use fallible_itertools::DoubleEndedFallibleItertools;
     /// # use fallible_itertools::FallibleItertools;
     /// let mut it = convert([Ok::<u32, &str>(0), Ok(7), Ok(150)].into_iter());
     /// let mut place = || -> Result<Option<usize>, &str> {
@@ -565,7 +553,7 @@ pub trait FallibleItertools: FallibleIterator + Sized {
         E: From<Self::Error>,
         F: FnMut(Self::Item) -> Result<bool, E>,
     {
-        answer_or_none(converted(self.fold_by(&mut (0, f), &PositionTurn)))
+        answer_or_none(converted(self.by_turns(&mut (0, f), &PositionTurn)))
     }
 
     /// Returns whether an item equals the wanted one.
@@ -576,7 +564,6 @@ pub trait FallibleItertools: FallibleIterator + Sized {
     ///
     /// ```
     /// # use fallible_iterator::{FallibleIterator, convert};
-    /// # use fallible_itertools::DoubleEndedFallibleItertools;
     /// # use fallible_itertools::FallibleItertools;
     /// let mut it = convert([Ok::<u32, u8>(150), Ok(7), Ok(700), Err(9)].into_iter());
     /// assert_eq!(it.contains(&7), Ok(true));
@@ -605,7 +592,7 @@ pub trait FallibleItertools: FallibleIterator + Sized {
     where
         Self::Item: PartialEq,
     {
-        answer_or(self.fold_by(&mut (), &ContainsTurn { wanted }), false)
+        answer_or(self.by_turns(&mut (), &ContainsTurn { wanted }), false)
     }
 
     /// Returns whether the first item equals each later one; true if there is no item.
@@ -616,7 +603,6 @@ pub trait FallibleItertools: FallibleIterator + Sized {
     ///
     /// ```
     /// # use fallible_iterator::{FallibleIterator, convert};
-    /// # use fallible_itertools::DoubleEndedFallibleItertools;
     /// # use fallible_itertools::FallibleItertools;
     /// let mut it = convert([Ok::<u32, u8>(7), Ok(7), Ok(150), Ok(8)].into_iter());
     /// assert_eq!(it.all_equal(), Ok(false));
@@ -644,10 +630,12 @@ pub trait FallibleItertools: FallibleIterator + Sized {
     where
         Self::Item: PartialEq,
     {
-        answer_or(self.fold_by(&mut None, &AllEqualTurn), true)
+        answer_or(self.by_turns(&mut None, &AllEqualTurn), true)
     }
 
     /// Returns whether no two items are equal; true if there is no item.
+    ///
+    /// Feature: `std`.
     ///
     /// It draws up to an item that equals one before it, the first failure or `Ok(None)`. It fails with that failure. Nothing is drawn after that, and the iterator may be used again. It forgets what came before then. A set has each item that was drawn.
     ///
@@ -655,7 +643,6 @@ pub trait FallibleItertools: FallibleIterator + Sized {
     ///
     /// ```
     /// # use fallible_iterator::{FallibleIterator, convert};
-    /// # use fallible_itertools::DoubleEndedFallibleItertools;
     /// # use fallible_itertools::FallibleItertools;
     /// let mut it = convert([Ok::<u32, u8>(7), Ok(150), Ok(7), Ok(8)].into_iter());
     /// assert!(!it.all_unique()?);
@@ -688,7 +675,7 @@ pub trait FallibleItertools: FallibleIterator + Sized {
         Self::Item: Eq + Hash,
     {
         let mut seen = HashSet::new();
-        let answer = self.fold_by(&mut seen, &AllUniqueTurn);
+        let answer = self.by_turns(&mut seen, &AllUniqueTurn);
         unique_or_fault(answer)
     }
 
@@ -700,7 +687,6 @@ pub trait FallibleItertools: FallibleIterator + Sized {
     ///
     /// ```
     /// # use fallible_iterator::{FallibleIterator, convert};
-    /// # use fallible_itertools::DoubleEndedFallibleItertools;
     /// # use fallible_itertools::FallibleItertools;
     /// let mut it = convert([Ok::<u32, u8>(7), Ok(7), Ok(150), Ok(8)].into_iter());
     /// assert_eq!(it.all_equal_value(), Ok(Err(Some((7, 150)))));
@@ -736,7 +722,7 @@ pub trait FallibleItertools: FallibleIterator + Sized {
         Self::Item: PartialEq,
     {
         let mut first = None;
-        let found = answer_or_none(self.fold_by(&mut first, &UnequalTurn));
+        let found = answer_or_none(self.by_turns(&mut first, &UnequalTurn));
         first_or_both(first, found)
     }
 
@@ -748,7 +734,6 @@ pub trait FallibleItertools: FallibleIterator + Sized {
     ///
     /// ```
     /// # use fallible_iterator::{FallibleIterator, convert};
-    /// # use fallible_itertools::DoubleEndedFallibleItertools;
     /// # use fallible_itertools::FallibleItertools;
     /// let mut it = convert([Ok::<u32, u8>(7), Ok(150), Ok(8)].into_iter());
     /// let found = it.find_position(|reading| Ok(*reading > 100));
@@ -778,7 +763,7 @@ pub trait FallibleItertools: FallibleIterator + Sized {
     where
         F: FnMut(&Self::Item) -> Result<bool, Self::Error>,
     {
-        answer_or_none(self.fold_by(&mut (0, f), &FindPositionTurn))
+        answer_or_none(self.by_turns(&mut (0, f), &FindPositionTurn))
     }
 
     /// Returns the first item on which the predicate returns true, or the last item if there is none; `Ok(None)` if there is no item.
@@ -789,7 +774,6 @@ pub trait FallibleItertools: FallibleIterator + Sized {
     ///
     /// ```
     /// # use fallible_iterator::{FallibleIterator, convert};
-    /// # use fallible_itertools::DoubleEndedFallibleItertools;
     /// # use fallible_itertools::FallibleItertools;
     /// let readings = [Ok::<u32, u8>(7), Ok(150), Ok(8)];
     /// let it = convert(readings.into_iter());
@@ -822,7 +806,7 @@ pub trait FallibleItertools: FallibleIterator + Sized {
         F: FnMut(&Self::Item) -> Result<bool, Self::Error>,
     {
         let mut state = (None, f);
-        let answer = self.fold_by(&mut state, &FindLastTurn);
+        let answer = self.by_turns(&mut state, &FindLastTurn);
         let (last, _) = state;
         or_kept(answer_or_none(answer), last)
     }
@@ -833,7 +817,6 @@ pub trait FallibleItertools: FallibleIterator + Sized {
     ///
     /// ```
     /// # use fallible_iterator::{FallibleIterator, convert};
-    /// # use fallible_itertools::DoubleEndedFallibleItertools;
     /// # use fallible_itertools::FallibleItertools;
     /// let readings = [Ok::<u32, u8>(7), Ok(150), Ok(8)];
     /// let it = convert(readings.into_iter());
@@ -866,7 +849,7 @@ pub trait FallibleItertools: FallibleIterator + Sized {
         F: FnMut(&Self::Item) -> Result<bool, Self::Error>,
     {
         let mut state = (None, f);
-        let answer = self.fold_by(&mut state, &FindFirstTurn);
+        let answer = self.by_turns(&mut state, &FindFirstTurn);
         let (first, _) = state;
         or_kept(answer_or_none(answer), first)
     }
@@ -879,7 +862,6 @@ pub trait FallibleItertools: FallibleIterator + Sized {
     ///
     /// ```
     /// # use fallible_iterator::{FallibleIterator, convert};
-    /// # use fallible_itertools::DoubleEndedFallibleItertools;
     /// # use fallible_itertools::FallibleItertools;
     /// let readings = [Ok::<u8, u8>(150), Ok(7)];
     /// assert_eq!(convert(readings.into_iter()).checked_sum(), Ok(Some(157)));
@@ -905,7 +887,7 @@ pub trait FallibleItertools: FallibleIterator + Sized {
         Self::Item: CheckedTotal,
     {
         let mut sum = Self::Item::zero();
-        let answer = self.fold_by(&mut sum, &SumTurn);
+        let answer = self.by_turns(&mut sum, &SumTurn);
         total_or_none(answer, sum)
     }
 
@@ -915,7 +897,6 @@ pub trait FallibleItertools: FallibleIterator + Sized {
     ///
     /// ```
     /// # use fallible_iterator::{FallibleIterator, convert};
-    /// # use fallible_itertools::DoubleEndedFallibleItertools;
     /// # use fallible_itertools::FallibleItertools;
     /// let sides = [Ok::<u8, u8>(3), Ok(7)];
     /// assert_eq!(convert(sides.into_iter()).checked_product(), Ok(Some(21)));
@@ -942,7 +923,7 @@ pub trait FallibleItertools: FallibleIterator + Sized {
         Self::Item: CheckedTotal,
     {
         let mut product = Self::Item::one();
-        let answer = self.fold_by(&mut product, &ProductTurn);
+        let answer = self.by_turns(&mut product, &ProductTurn);
         total_or_none(answer, product)
     }
 
@@ -956,7 +937,6 @@ pub trait FallibleItertools: FallibleIterator + Sized {
     ///
     /// ```
     /// # use fallible_iterator::{FallibleIterator, convert};
-    /// # use fallible_itertools::DoubleEndedFallibleItertools;
     /// # use fallible_itertools::FallibleItertools;
     /// let prices = [Ok::<f64, u8>(1.5), Ok(0.25), Ok(2.0)];
     /// assert_eq!(convert(prices.into_iter()).sum::<f64>(), Ok(3.75));
@@ -986,7 +966,6 @@ pub trait FallibleItertools: FallibleIterator + Sized {
     ///
     /// ```
     /// # use fallible_iterator::{FallibleIterator, convert};
-    /// # use fallible_itertools::DoubleEndedFallibleItertools;
     /// # use fallible_itertools::FallibleItertools;
     /// let rates = [Ok::<f64, u8>(1.5), Ok(0.5), Ok(2.0)];
     /// assert_eq!(convert(rates.into_iter()).product::<f64>(), Ok(1.5));
@@ -1018,7 +997,6 @@ pub trait FallibleItertools: FallibleIterator + Sized {
     ///
     /// ```
     /// # use fallible_iterator::{FallibleIterator, convert};
-    /// # use fallible_itertools::DoubleEndedFallibleItertools;
     /// # use fallible_itertools::FallibleItertools;
     /// # use fallible_itertools::FoldWhile;
     /// let mut it = convert([Ok::<u32, u8>(150), Ok(7), Ok(0), Ok(8)].into_iter());
@@ -1060,7 +1038,7 @@ pub trait FallibleItertools: FallibleIterator + Sized {
         F: FnMut(B, Self::Item) -> Result<FoldWhile<B>, Self::Error>,
     {
         let mut state = (Some(init), f);
-        let answer = self.fold_by(&mut state, &FoldWhileTurn);
+        let answer = self.by_turns(&mut state, &FoldWhileTurn);
         let (value, _) = state;
         while_or_stop(answer, value)
     }
@@ -1073,7 +1051,6 @@ pub trait FallibleItertools: FallibleIterator + Sized {
     ///
     /// ```
     /// # use fallible_iterator::{FallibleIterator, convert};
-    /// # use fallible_itertools::DoubleEndedFallibleItertools;
     /// # use fallible_itertools::FallibleItertools;
     /// let readings = [Ok::<u32, u8>(150), Ok(7), Ok(8)];
     /// let it = convert(readings.into_iter());
@@ -1105,7 +1082,7 @@ pub trait FallibleItertools: FallibleIterator + Sized {
         F: FnMut(Self::Item) -> Result<K, Self::Error>,
     {
         let mut state = (None, f);
-        answer_or(self.fold_by(&mut state, &IsSortedByKeyTurn), true)
+        answer_or(self.by_turns(&mut state, &IsSortedByKeyTurn), true)
     }
 
     /// Returns whether the closure returns true for each two adjacent items. It is called on references to an item and the next one.
@@ -1116,7 +1093,6 @@ pub trait FallibleItertools: FallibleIterator + Sized {
     ///
     /// ```
     /// # use fallible_iterator::{FallibleIterator, convert};
-    /// # use fallible_itertools::DoubleEndedFallibleItertools;
     /// # use fallible_itertools::FallibleItertools;
     /// let readings = [Ok::<u32, u8>(150), Ok(7), Ok(8)];
     /// let it = convert(readings.into_iter());
@@ -1144,7 +1120,7 @@ pub trait FallibleItertools: FallibleIterator + Sized {
         F: FnMut(&Self::Item, &Self::Item) -> Result<bool, Self::Error>,
     {
         let mut state = (None, f);
-        answer_or(self.fold_by(&mut state, &IsSortedByTurn), true)
+        answer_or(self.by_turns(&mut state, &IsSortedByTurn), true)
     }
 
     /// Returns whether no item is less than the one before it. An item that can't be compared with the one before it counts as less.
@@ -1155,7 +1131,6 @@ pub trait FallibleItertools: FallibleIterator + Sized {
     ///
     /// ```
     /// # use fallible_iterator::{FallibleIterator, convert};
-    /// # use fallible_itertools::DoubleEndedFallibleItertools;
     /// # use fallible_itertools::FallibleItertools;
     /// let readings = [Ok::<u32, u8>(7), Ok(7), Ok(150)];
     /// assert_eq!(convert(readings.into_iter()).is_sorted(), Ok(true));
@@ -1183,7 +1158,7 @@ pub trait FallibleItertools: FallibleIterator + Sized {
     where
         Self::Item: PartialOrd,
     {
-        answer_or(self.fold_by(&mut (None, ()), &IsSortedTurn), true)
+        answer_or(self.by_turns(&mut (None, ()), &IsSortedTurn), true)
     }
 
     // ---- adapters that let results pass
@@ -1195,7 +1170,6 @@ pub trait FallibleItertools: FallibleIterator + Sized {
     /// ```
     /// # use fallible_iterator::{FallibleIterator, convert};
     /// # use fallible_itertools::FallibleItertools;
-    /// # use fallible_itertools::PeekingNext;
     /// let readings = [150, 7];
     /// let mut it = convert(readings.iter().map(Ok::<&u32, u8>)).copied();
     /// let drawn = [it.next(), it.next(), it.next()];
@@ -1228,7 +1202,6 @@ pub trait FallibleItertools: FallibleIterator + Sized {
     /// ```
     /// # use fallible_iterator::{FallibleIterator, convert};
     /// # use fallible_itertools::FallibleItertools;
-    /// # use fallible_itertools::PeekingNext;
     /// let readings = [Ok::<u32, u8>(150), Ok(7), Ok(700)];
     /// let mut it = convert(readings.into_iter()).take_while_inclusive(|reading| Ok(*reading > 100));
     /// let drawn = [it.next(), it.next(), it.next()];
@@ -1272,7 +1245,6 @@ pub trait FallibleItertools: FallibleIterator + Sized {
     /// ```
     /// # use fallible_iterator::{FallibleIterator, convert};
     /// # use fallible_itertools::FallibleItertools;
-    /// # use fallible_itertools::PeekingNext;
     /// let readings = [Ok::<u32, u8>(150), Err(9), Ok(7)];
     /// let mut noted = None;
     /// let mut it = convert(readings.into_iter()).inspect_err(|code| noted = Some(*code));
@@ -1310,7 +1282,6 @@ pub trait FallibleItertools: FallibleIterator + Sized {
     /// ```
     /// # use fallible_iterator::{FallibleIterator, convert};
     /// # use fallible_itertools::FallibleItertools;
-    /// # use fallible_itertools::PeekingNext;
     /// let readings = convert([Ok::<u32, u8>(150), Err(9)].into_iter());
     /// let totals = convert([Ok::<u32, u16>(157), Err(700)].into_iter());
     /// let mut it = readings.err_into::<u32>().chain(totals.err_into());
@@ -1345,7 +1316,6 @@ pub trait FallibleItertools: FallibleIterator + Sized {
     /// ```
     /// # use fallible_iterator::{FallibleIterator, convert};
     /// # use fallible_itertools::FallibleItertools;
-    /// # use fallible_itertools::PeekingNext;
     /// let readings = [Ok::<u32, u8>(150), Err(1), Err(2), Err(9)];
     /// let mut it = convert(readings.into_iter()).or_else(|code| match code {
     ///     1 => Ok(Some(0)),
@@ -1385,7 +1355,6 @@ pub trait FallibleItertools: FallibleIterator + Sized {
     /// ```
     /// # use fallible_iterator::{FallibleIterator, convert};
     /// # use fallible_itertools::FallibleItertools;
-    /// # use fallible_itertools::PeekingNext;
     /// let mut it = convert([Ok::<u32, u8>(150), Err(1), Ok(7)].into_iter()).fuse_at_failure();
     /// let drawn = [it.next(), it.next(), it.next()];
     /// assert_eq!(drawn, [Ok(Some(150)), Err(1), Ok(None)]);
@@ -1419,7 +1388,6 @@ pub trait FallibleItertools: FallibleIterator + Sized {
     /// ```
     /// # use fallible_iterator::{FallibleIterator, convert};
     /// # use fallible_itertools::FallibleItertools;
-    /// # use fallible_itertools::PeekingNext;
     /// let readings = [Ok::<u32, u8>(150), Err(1), Ok(7), Err(2), Ok(700)];
     /// let mut it = convert(readings.into_iter()).stop_after(2);
     /// let drawn = [it.next(), it.next(), it.next(), it.next(), it.next()];
@@ -1758,7 +1726,6 @@ pub trait FallibleItertools: FallibleIterator + Sized {
     /// ```
     /// # use fallible_iterator::{FallibleIterator, convert};
     /// # use fallible_itertools::FallibleItertools;
-    /// # use fallible_itertools::PeekingNext;
     /// let readings = [Ok::<usize, u8>(150), Err(9), Ok(7)];
     /// let mut it = convert(readings.into_iter()).pad_using(3, Ok);
     /// let drawn = [it.next(), it.next(), it.next(), it.next(), it.next()];
@@ -1806,7 +1773,6 @@ pub trait FallibleItertools: FallibleIterator + Sized {
     ///
     /// ```
     /// # use fallible_iterator::{FallibleIterator, convert};
-    /// # use fallible_itertools::DoubleEndedFallibleItertools;
     /// # use fallible_itertools::FallibleItertools;
     /// let one = [Ok::<u32, u8>(150)];
     /// assert_eq!(convert(one.into_iter()).at_most_one(), Ok(Ok(Some(150))));
@@ -1853,7 +1819,6 @@ pub trait FallibleItertools: FallibleIterator + Sized {
     ///
     /// ```
     /// # use fallible_iterator::{FallibleIterator, convert};
-    /// # use fallible_itertools::DoubleEndedFallibleItertools;
     /// # use fallible_itertools::FallibleItertools;
     /// # use fallible_itertools::NotOne;
     /// let one = [Ok::<u32, u8>(150)];
@@ -1901,7 +1866,6 @@ pub trait FallibleItertools: FallibleIterator + Sized {
     ///
     /// ```
     /// # use fallible_iterator::{FallibleIterator, convert};
-    /// # use fallible_itertools::DoubleEndedFallibleItertools;
     /// # use fallible_itertools::FallibleItertools;
     /// let readings = [Ok::<u32, u8>(150), Ok(7), Ok(150), Ok(8)];
     /// assert_eq!(convert(readings.into_iter()).position_max(), Ok(Some(2)));
@@ -1936,7 +1900,6 @@ pub trait FallibleItertools: FallibleIterator + Sized {
     ///
     /// ```
     /// # use fallible_iterator::{FallibleIterator, convert};
-    /// # use fallible_itertools::DoubleEndedFallibleItertools;
     /// # use fallible_itertools::FallibleItertools;
     /// let readings = [Ok::<u32, u8>(150), Ok(7), Ok(8), Ok(7)];
     /// assert_eq!(convert(readings.into_iter()).position_min(), Ok(Some(1)));
@@ -1975,7 +1938,6 @@ pub trait FallibleItertools: FallibleIterator + Sized {
     ///
     /// ```
     /// # use fallible_iterator::{FallibleIterator, convert};
-    /// # use fallible_itertools::DoubleEndedFallibleItertools;
     /// # use fallible_itertools::FallibleItertools;
     /// # use fallible_itertools::MinMaxResult;
     /// let readings = [Ok::<u32, u8>(150), Ok(7), Ok(700)];
@@ -2011,7 +1973,7 @@ pub trait FallibleItertools: FallibleIterator + Sized {
             Err(e) => return Err(e),
         };
         let mut both = lesser_first(first, second);
-        match self.fold_by(&mut both, &MinMaxTurn) {
+        match self.by_turns(&mut both, &MinMaxTurn) {
             Ok(None) => Ok(MinMaxResult::MinMax(both.0, both.1)),
             Ok(Some(never)) => match never {},
             Err(e) => Err(e),
@@ -2028,7 +1990,6 @@ pub trait FallibleItertools: FallibleIterator + Sized {
     ///
     /// ```
     /// # use fallible_iterator::{FallibleIterator, convert};
-    /// # use fallible_itertools::DoubleEndedFallibleItertools;
     /// # use fallible_itertools::FallibleItertools;
     /// # use fallible_itertools::MinMaxResult;
     /// let pairs = [Ok::<(u32, char), u8>((3, 'a')), Ok((1, 'b')), Ok((3, 'c')), Ok((1, 'd'))];
@@ -2071,7 +2032,6 @@ pub trait FallibleItertools: FallibleIterator + Sized {
     ///
     /// ```
     /// # use fallible_iterator::{FallibleIterator, convert};
-    /// # use fallible_itertools::DoubleEndedFallibleItertools;
     /// # use fallible_itertools::FallibleItertools;
     /// # use fallible_itertools::MinMaxResult;
     /// let words = [Ok::<&str, u8>("to"), Ok("the"), Ok("sea"), Ok("at")];
@@ -2106,13 +2066,14 @@ pub trait FallibleItertools: FallibleIterator + Sized {
 
     /// Returns how often each item comes, as a map. A key is the first of equal items, its value the number of items equal to it.
     ///
+    /// Feature: `std`.
+    ///
     /// It draws up to `Ok(None)` or the first failure. It fails with that failure. It consumes the iterator.
     ///
     /// Precondition, which is not checked: at most `usize::MAX` items are left, so that each number fits.
     ///
     /// ```
     /// # use fallible_iterator::{FallibleIterator, convert};
-    /// # use fallible_itertools::DoubleEndedFallibleItertools;
     /// # use fallible_itertools::FallibleItertools;
     /// let readings = [Ok::<u32, u8>(7), Ok(150), Ok(7)];
     /// let counts = convert(readings.into_iter()).counts()?;
@@ -2145,11 +2106,13 @@ pub trait FallibleItertools: FallibleIterator + Sized {
         let mut made = Tally {
             counts: HashMap::new(),
         };
-        whole(self.fold_by(&mut made, &CollectTurn))?;
+        whole(self.by_turns(&mut made, &CollectTurn))?;
         Ok(made.counts)
     }
 
     /// Returns how often each key comes that the closure makes of the items, as a map. A key of the map is the first of equal ones.
+    ///
+    /// Feature: `std`.
     ///
     /// Draws and errors: as `counts` of `map`. The closure is called once on each item. If it fails, this stops and fails with that failure. It consumes the iterator.
     ///
@@ -2157,7 +2120,6 @@ pub trait FallibleItertools: FallibleIterator + Sized {
     ///
     /// ```
     /// # use fallible_iterator::{FallibleIterator, convert};
-    /// # use fallible_itertools::DoubleEndedFallibleItertools;
     /// # use fallible_itertools::FallibleItertools;
     /// let readings = [Ok::<u32, u8>(150), Ok(7), Ok(157)];
     /// let counts = convert(readings.into_iter()).counts_by(|reading: u32| Ok(
@@ -2195,13 +2157,14 @@ pub trait FallibleItertools: FallibleIterator + Sized {
 
     /// Returns the pairs' values by their keys, as a map. A key is the first of equal keys, its value a `Vec` of the values of the pairs with an equal key, in order.
     ///
+    /// Feature: `std`.
+    ///
     /// It draws up to `Ok(None)` or the first failure. It fails with that failure. It consumes the iterator.
     ///
     /// Precondition, which is not checked: the iterator is finite.
     ///
     /// ```
     /// # use fallible_iterator::{FallibleIterator, convert};
-    /// # use fallible_itertools::DoubleEndedFallibleItertools;
     /// # use fallible_itertools::FallibleItertools;
     /// let pairs = [Ok::<(char, u32), u8>(('a', 1)), Ok(('b', 2)), Ok(('a', 3))];
     /// let groups = convert(pairs.into_iter()).into_group_map()?;
@@ -2234,7 +2197,7 @@ pub trait FallibleItertools: FallibleIterator + Sized {
         let mut made = GroupMap {
             groups: HashMap::new(),
         };
-        whole(self.fold_by(&mut made, &CollectTurn))?;
+        whole(self.by_turns(&mut made, &CollectTurn))?;
         Ok(made.groups)
     }
 
@@ -2246,7 +2209,6 @@ pub trait FallibleItertools: FallibleIterator + Sized {
     ///
     /// ```
     /// # use fallible_iterator::{FallibleIterator, convert};
-    /// # use fallible_itertools::DoubleEndedFallibleItertools;
     /// # use fallible_itertools::FallibleItertools;
     /// let readings = [Ok::<u32, u8>(150), Ok(7), Err(9), Ok(700)];
     /// let mut it = convert(readings.into_iter());
@@ -2278,11 +2240,13 @@ pub trait FallibleItertools: FallibleIterator + Sized {
         C: Default + Extend<Self::Item>,
     {
         let mut made = Extended(C::default());
-        let failure = whole(self.fold_by(&mut made, &PushTurn)).err();
+        let failure = whole(self.by_turns(&mut made, &PushTurn)).err();
         (made.0, failure)
     }
 
     /// Returns the items by the keys that the closure makes of them, as a map. A key of the map is the first of equal ones, its value a `Vec` of the items with an equal key, in order.
+    ///
+    /// Feature: `std`.
     ///
     /// Draws and errors: as `into_group_map`. The closure is called once on each item, through a reference. If it fails, this stops and fails with that failure. It consumes the iterator.
     ///
@@ -2290,7 +2254,6 @@ pub trait FallibleItertools: FallibleIterator + Sized {
     ///
     /// ```
     /// # use fallible_iterator::{FallibleIterator, convert};
-    /// # use fallible_itertools::DoubleEndedFallibleItertools;
     /// # use fallible_itertools::FallibleItertools;
     /// let readings = [Ok::<u32, u8>(150), Ok(7), Ok(157)];
     /// let groups = convert(readings.into_iter()).into_group_map_by(|reading: &u32| Ok(
@@ -2328,13 +2291,14 @@ pub trait FallibleItertools: FallibleIterator + Sized {
 
     /// Returns for each key that the first closure makes of the items what the second folds its items to, as a map. A key of the map is the first of equal ones, its value the fold of the items with an equal key, in order, from `init` on.
     ///
+    /// Feature: `std`.
+    ///
     /// It draws up to `Ok(None)` or the first failure, of this iterator or of a closure. It fails with that failure. On each item the first closure is called, through a reference, and then the second, on the value so far of the item's key. It consumes the iterator.
     ///
     /// Precondition, which is not checked: the iterator is finite.
     ///
     /// ```
     /// # use fallible_iterator::{FallibleIterator, convert};
-    /// # use fallible_itertools::DoubleEndedFallibleItertools;
     /// # use fallible_itertools::FallibleItertools;
     /// let readings = [Ok::<u32, u8>(150), Ok(7), Ok(157)];
     /// let sums = convert(readings.into_iter()).fold_by_key(|reading: &u32| Ok(*reading / 100),
@@ -2381,7 +2345,7 @@ pub trait FallibleItertools: FallibleIterator + Sized {
     {
         let mut it = Keyed { it: self, f: key };
         let mut state = (HashMap::new(), f);
-        let answer = it.fold_by(&mut state, &crate::fold_by_key::FoldByKeyTurn { init });
+        let answer = it.by_turns(&mut state, &crate::fold_by_key::FoldByKeyTurn { init });
         let (folds, _) = state;
         match answer {
             Ok(None) => Ok(folds),
@@ -2397,7 +2361,6 @@ pub trait FallibleItertools: FallibleIterator + Sized {
     ///
     /// ```
     /// # use fallible_iterator::{FallibleIterator, convert};
-    /// # use fallible_itertools::DoubleEndedFallibleItertools;
     /// # use fallible_itertools::Either;
     /// # use fallible_itertools::FallibleItertools;
     /// let readings = [Ok::<u32, u8>(150), Ok(7), Ok(700)];
@@ -2438,7 +2401,7 @@ pub trait FallibleItertools: FallibleIterator + Sized {
         F: FnMut(Self::Item) -> Result<Either<A, B>, Self::Error>,
     {
         let mut sides = (Extended(L::default()), Extended(R::default()));
-        whole(self.map(f).fold_by(&mut sides, &CollectTurn))?;
+        whole(self.map(f).by_turns(&mut sides, &CollectTurn))?;
         Ok((sides.0.0, sides.1.0))
     }
 
@@ -2450,7 +2413,6 @@ pub trait FallibleItertools: FallibleIterator + Sized {
     ///
     /// ```
     /// # use fallible_iterator::{FallibleIterator, convert};
-    /// # use fallible_itertools::DoubleEndedFallibleItertools;
     /// # use fallible_itertools::FallibleItertools;
     /// let readings = [Ok::<u32, u8>(150), Err(9), Ok(7), Err(8)];
     /// let (items, failures): (Vec<u32>, Vec<u8>) = convert(readings.into_iter()).partition_failures();
@@ -2479,11 +2441,13 @@ pub trait FallibleItertools: FallibleIterator + Sized {
     {
         let mut both = (Extended(C::default()), Extended(D::default()));
         // Its failure has no value.
-        let _ = whole((Parted { it: self }).fold_by(&mut both, &CollectTurn));
+        let _ = whole((Parted { it: self }).by_turns(&mut both, &CollectTurn));
         (both.0.0, both.1.0)
     }
 
     /// Returns the items in a `Vec`, in order. Equal items keep their order.
+    ///
+    /// Feature: `alloc`.
     ///
     /// It draws up to `Ok(None)` or the first failure. It fails with that failure. After `Ok(None)` it sorts. It consumes the iterator.
     ///
@@ -2491,7 +2455,6 @@ pub trait FallibleItertools: FallibleIterator + Sized {
     ///
     /// ```
     /// # use fallible_iterator::{FallibleIterator, convert};
-    /// # use fallible_itertools::DoubleEndedFallibleItertools;
     /// # use fallible_itertools::FallibleItertools;
     /// let readings = [Ok::<u32, u8>(150), Ok(7), Ok(700)];
     /// let sorted = convert(readings.into_iter()).sorted()?;
@@ -2524,13 +2487,14 @@ pub trait FallibleItertools: FallibleIterator + Sized {
 
     /// Returns the items in a `Vec`, in the order that the closure returns for each two. Items that it finds equal keep their order. If it compares as no order does, it returns the items in any order, each of them once; in Rust it may panic.
     ///
+    /// Feature: `alloc`.
+    ///
     /// Draws and errors: as `sorted`. The closure doesn't fail. It is called after the last draw. It consumes the iterator.
     ///
     /// Precondition, which is not checked: the iterator is finite.
     ///
     /// ```
     /// # use fallible_iterator::{FallibleIterator, convert};
-    /// # use fallible_itertools::DoubleEndedFallibleItertools;
     /// # use fallible_itertools::FallibleItertools;
     /// let readings = [Ok::<u32, u8>(150), Ok(7), Ok(700)];
     /// let falling = convert(readings.into_iter()).sorted_by(|x: &u32, y: &u32| y.cmp(x),
@@ -2573,13 +2537,14 @@ pub trait FallibleItertools: FallibleIterator + Sized {
 
     /// Returns the items in a `Vec`, in the order of the keys that the closure returns for them. Items with equal keys keep their order. If the closure returns other keys for an item from call to call, it returns the items in any order, each of them once.
     ///
+    /// Feature: `alloc`.
+    ///
     /// Draws and errors: as `sorted`. The closure doesn't fail; a key that may fail is made by `map` before. The closure is called after the last draw, on an item as often as its key is compared. It consumes the iterator.
     ///
     /// Precondition, which is not checked: the iterator is finite.
     ///
     /// ```
     /// # use fallible_iterator::{FallibleIterator, convert};
-    /// # use fallible_itertools::DoubleEndedFallibleItertools;
     /// # use fallible_itertools::FallibleItertools;
     /// let words = [Ok::<&str, u8>("the"), Ok("sea"), Ok("is")];
     /// let sorted = convert(words.into_iter()).sorted_by_key(|word: &&str| word.len())?;
@@ -2620,13 +2585,14 @@ pub trait FallibleItertools: FallibleIterator + Sized {
 
     /// Returns the items in a `Vec`, in order. Equal items may come in any order. Sorting takes no memory beyond the `Vec`.
     ///
+    /// Feature: `alloc`.
+    ///
     /// It draws up to `Ok(None)` or the first failure. It fails with that failure. After `Ok(None)` it sorts. It consumes the iterator.
     ///
     /// Precondition, which is not checked: the iterator is finite.
     ///
     /// ```
     /// # use fallible_iterator::{FallibleIterator, convert};
-    /// # use fallible_itertools::DoubleEndedFallibleItertools;
     /// # use fallible_itertools::FallibleItertools;
     /// let readings = [Ok::<u32, u8>(150), Ok(7), Ok(700)];
     /// let sorted = convert(readings.into_iter()).sorted_unstable()?;
@@ -2659,13 +2625,14 @@ pub trait FallibleItertools: FallibleIterator + Sized {
 
     /// Returns the items in a `Vec`, in the order that the closure returns for each two. Items that it finds equal may come in any order. If it compares as no order does, it returns the items in any order, each of them once; in Rust it may panic.
     ///
+    /// Feature: `alloc`.
+    ///
     /// Draws, errors and memory: as `sorted_unstable`. The closure doesn't fail. It is called after the last draw. It consumes the iterator.
     ///
     /// Precondition, which is not checked: the iterator is finite.
     ///
     /// ```
     /// # use fallible_iterator::{FallibleIterator, convert};
-    /// # use fallible_itertools::DoubleEndedFallibleItertools;
     /// # use fallible_itertools::FallibleItertools;
     /// let readings = [Ok::<u32, u8>(150), Ok(7), Ok(700)];
     /// let falling = convert(readings.into_iter()).sorted_unstable_by(|x: &u32, y: &u32| y.cmp(x),
@@ -2708,13 +2675,14 @@ pub trait FallibleItertools: FallibleIterator + Sized {
 
     /// Returns the items in a `Vec`, in the order of the keys that the closure returns for them. Items with equal keys may come in any order. If the closure returns other keys for an item from call to call, it returns the items in any order, each of them once; in Rust it may panic.
     ///
+    /// Feature: `alloc`.
+    ///
     /// Draws, errors and memory: as `sorted_unstable`. The closure doesn't fail; a key that may fail is made by `map` before. The closure is called after the last draw, on an item as often as its key is compared. It consumes the iterator.
     ///
     /// Precondition, which is not checked: the iterator is finite.
     ///
     /// ```
     /// # use fallible_iterator::{FallibleIterator, convert};
-    /// # use fallible_itertools::DoubleEndedFallibleItertools;
     /// # use fallible_itertools::FallibleItertools;
     /// let words = [Ok::<&str, u8>("the"), Ok("is"), Ok("calm")];
     /// let sorted = convert(words.into_iter()).sorted_unstable_by_key(|word: &&str| word.len(),
@@ -2756,6 +2724,8 @@ pub trait FallibleItertools: FallibleIterator + Sized {
 
     /// Returns the items as `Display` shows them, with the separator between each two.
     ///
+    /// Feature: `alloc`.
+    ///
     /// It draws up to `Ok(None)` or the first failure. It fails with that failure. It consumes the iterator.
     ///
     /// In Rust it panics if the `Display` of an item fails.
@@ -2764,7 +2734,6 @@ pub trait FallibleItertools: FallibleIterator + Sized {
     ///
     /// ```
     /// # use fallible_iterator::{FallibleIterator, convert};
-    /// # use fallible_itertools::DoubleEndedFallibleItertools;
     /// # use fallible_itertools::FallibleItertools;
     /// let readings = [Ok::<u32, u8>(150), Ok(7), Ok(700)];
     /// let text = convert(readings.into_iter()).join(", ")?;
@@ -2793,11 +2762,13 @@ pub trait FallibleItertools: FallibleIterator + Sized {
         Self::Item: Display,
     {
         let mut state = (false, String::new());
-        whole(self.fold_by(&mut state, &JoinTurn { separator }))?;
+        whole(self.by_turns(&mut state, &JoinTurn { separator }))?;
         Ok(state.1)
     }
 
     /// Returns the `k` least items in a `Vec`, in order, or all if fewer come. Equal items keep their order, and the first of them are kept. It keeps at most twice `k` items at a time.
+    ///
+    /// Feature: `alloc`.
     ///
     /// It draws up to `Ok(None)` or the first failure, also if `k` is 0. It fails with that failure, and what was kept is dropped. It consumes the iterator.
     ///
@@ -2835,12 +2806,14 @@ pub trait FallibleItertools: FallibleIterator + Sized {
         Self::Item: Ord,
     {
         let mut kept = Vec::new();
-        whole(self.fold_by(&mut kept, &k_smallest::SmallestTurn { k }))?;
+        whole(self.by_turns(&mut kept, &k_smallest::SmallestTurn { k }))?;
         k_smallest::cut(&mut kept, k);
         Ok(kept)
     }
 
     /// Returns the last `n` items in a queue, in order, or all if fewer come. It keeps at most `n` items at a time.
+    ///
+    /// Feature: `alloc`.
     ///
     /// It draws up to `Ok(None)` or the first failure, also if `n` is 0. It fails with that failure, and what was kept is dropped. It consumes the iterator.
     ///
@@ -2873,7 +2846,7 @@ pub trait FallibleItertools: FallibleIterator + Sized {
     #[cfg(feature = "alloc")]
     fn tail(mut self, n: usize) -> Result<VecDeque<Self::Item>, Self::Error> {
         let mut kept = VecDeque::new();
-        whole(self.fold_by(&mut kept, &tail::TailTurn { n }))?;
+        whole(self.by_turns(&mut kept, &tail::TailTurn { n }))?;
         Ok(kept)
     }
 
@@ -2973,6 +2946,8 @@ pub trait FallibleItertools: FallibleIterator + Sized {
 
     /// Yields the items in batches of n. A batch before an `Ok(None)` or a failure may have fewer.
     ///
+    /// Feature: `alloc`.
+    ///
     /// Creating it draws nothing and allocates nothing. `next` draws until the batch has n items, or a stop comes: `Ok(None)` or a failure. A buffered batch is yielded first. The stop is what the next call returns, without a draw. A new batch has room for n items at once, or for 1024 if n is more.
     ///
     /// It fails as the source does. After a failure and after `Ok(None)` the next call draws again.
@@ -2982,7 +2957,6 @@ pub trait FallibleItertools: FallibleIterator + Sized {
     /// ```
     /// # use fallible_iterator::{FallibleIterator, convert};
     /// # use fallible_itertools::FallibleItertools;
-    /// # use fallible_itertools::PeekingNext;
     /// let readings = [Ok::<u32, u8>(150), Ok(7), Ok(700)];
     /// let mut it = convert(readings.into_iter()).chunks(2);
     /// assert_eq!(it.next(), Ok(Some(vec![150, 7])));
@@ -3011,6 +2985,8 @@ pub trait FallibleItertools: FallibleIterator + Sized {
 
     /// Yields groups of adjacent items with equal keys, each with its key.
     ///
+    /// Feature: `alloc`.
+    ///
     /// Creating it draws nothing, calls nothing and allocates nothing. `next` draws until an item has another key than the buffered group, or a stop comes: `Ok(None)` or a failure. It calls the closure once on each item. A buffered group is yielded first. The stop is what the next call returns, without a draw. After a stop a new group begins. A new group has room at once for as many items as the one that it follows has, or for 1024 if that has more.
     ///
     /// It fails as the source does. The closure's failure is a stop too. Then the item is lost, and no other. After a failure and after `Ok(None)` the next call draws again.
@@ -3018,7 +2994,6 @@ pub trait FallibleItertools: FallibleIterator + Sized {
     /// ```
     /// # use fallible_iterator::{FallibleIterator, convert};
     /// # use fallible_itertools::FallibleItertools;
-    /// # use fallible_itertools::PeekingNext;
     /// let readings = [Ok::<u32, u8>(150), Ok(157), Ok(7)];
     /// let mut it = convert(readings.into_iter()).chunk_by(|reading| Ok(*reading / 10));
     /// assert_eq!(it.next(), Ok(Some((15, vec![150, 157]))));
@@ -3062,7 +3037,6 @@ pub trait FallibleItertools: FallibleIterator + Sized {
     /// ```
     /// # use fallible_iterator::{FallibleIterator, convert};
     /// # use fallible_itertools::FallibleItertools;
-    /// # use fallible_itertools::PeekingNext;
     /// let readings = [Ok::<u32, u8>(150), Ok(7)];
     /// let mut it = convert(readings.into_iter()).intersperse(0);
     /// let drawn = [it.next(), it.next(), it.next(), it.next()];
@@ -3105,7 +3079,6 @@ pub trait FallibleItertools: FallibleIterator + Sized {
     /// ```
     /// # use fallible_iterator::{FallibleIterator, convert};
     /// # use fallible_itertools::FallibleItertools;
-    /// # use fallible_itertools::PeekingNext;
     /// let readings = [Ok::<u32, u8>(150), Ok(7), Ok(700)];
     /// let mut number = 0u32;
     /// let mut it = convert(readings.into_iter()).intersperse_with(|| {
@@ -3166,7 +3139,6 @@ pub trait FallibleItertools: FallibleIterator + Sized {
     /// ```
     /// # use fallible_iterator::{FallibleIterator, convert};
     /// # use fallible_itertools::FallibleItertools;
-    /// # use fallible_itertools::PeekingNext;
     /// let readings = [Ok::<u32, u8>(150), Ok(7), Err(9), Ok(700)];
     /// let mut it = convert(readings.into_iter()).positions(|reading| Ok(reading > 100));
     /// let drawn = [it.next(), it.next(), it.next(), it.next()];
@@ -3197,12 +3169,13 @@ pub trait FallibleItertools: FallibleIterator + Sized {
 
     /// Yields each item that equals none before it: of equal items the first.
     ///
+    /// Feature: `std`.
+    ///
     /// Creating it draws nothing and allocates nothing. `next` draws up to an item that equals none that was yielded, a failure or an `Ok(None)`. A set has a clone of each item that was yielded. It fails as the source does, and a failure parts nothing. After a failure or an `Ok(None)` the set stays.
     ///
     /// ```
     /// # use fallible_iterator::{FallibleIterator, convert};
     /// # use fallible_itertools::FallibleItertools;
-    /// # use fallible_itertools::PeekingNext;
     /// let readings = [Ok::<u32, u8>(7), Ok(150), Ok(7)];
     /// let mut it = convert(readings.into_iter()).unique();
     /// let drawn = [it.next(), it.next(), it.next()];
@@ -3235,6 +3208,8 @@ pub trait FallibleItertools: FallibleIterator + Sized {
 
     /// Yields each item whose key equals none before it: the first item of each key. The closure makes the key of a reference to the item.
     ///
+    /// Feature: `std`.
+    ///
     /// Creating it draws nothing, calls nothing and allocates nothing. `next` draws up to an item whose key equals that of none that was yielded, a failure or an `Ok(None)`. It calls the closure once on each item that it draws. A set has the keys of the items that were yielded; nothing is cloned. It fails as the source does, and as the closure does. A failure parts nothing. After a failure or an `Ok(None)` the set stays.
     ///
     /// If the closure fails, its failure is yielded, the item is lost, and no other.
@@ -3242,7 +3217,6 @@ pub trait FallibleItertools: FallibleIterator + Sized {
     /// ```
     /// # use fallible_iterator::{FallibleIterator, convert};
     /// # use fallible_itertools::FallibleItertools;
-    /// # use fallible_itertools::PeekingNext;
     /// let readings = [Ok::<u32, u8>(7), Ok(150), Ok(17)];
     /// let mut it = convert(readings.into_iter())
     ///     .unique_by(|reading| Ok(*reading % 10));
@@ -3277,12 +3251,13 @@ pub trait FallibleItertools: FallibleIterator + Sized {
 
     /// Yields each item that equals exactly one before it: of equal items the second.
     ///
+    /// Feature: `std`.
+    ///
     /// Creating it draws nothing and allocates nothing. `next` draws up to an item that equals exactly one before it, a failure or an `Ok(None)`. A map has the first of equal items, whether or not a second came; nothing is cloned. It fails as the source does, and a failure parts nothing. After a failure or an `Ok(None)` the map stays.
     ///
     /// ```
     /// # use fallible_iterator::{FallibleIterator, convert};
     /// # use fallible_itertools::FallibleItertools;
-    /// # use fallible_itertools::PeekingNext;
     /// let readings = [Ok::<u32, u8>(7), Ok(150), Ok(7), Ok(7)];
     /// let mut it = convert(readings.into_iter()).duplicates();
     /// let drawn = [it.next(), it.next()];

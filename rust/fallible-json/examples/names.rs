@@ -1,12 +1,11 @@
 //! Prints each name of the members of a JSON text from standard input, once a member. A text that is none is told with its line and column.
 use fallible_iterator::FallibleIterator;
-use fallible_json::program_io::memory::{Fault, Global};
-use fallible_json::{JsonFault, MakeJson, PlacedBytes, Token, Tokens};
+use fallible_json::{Fault, JsonFault, PlacedBytes, Token, Tokens, json_of};
 use std::io::{Read, stdin};
 
 /// The names, as they stand in the text between their quotes.
 fn names(text: &[u8]) -> Result<Vec<&[u8]>, Fault<JsonFault>> {
-    Global.json_of(text)?;
+    json_of(text)?;
     let (mut tokens, mut found, mut before) =
         (Tokens::new(PlacedBytes::new(text)), Vec::new(), None);
     while let Ok(Some((first, last, token))) = tokens.next() {
@@ -34,7 +33,7 @@ fn main() -> std::io::Result<()> {
         Ok(found) => found
             .iter()
             .for_each(|name| println!("{}", String::from_utf8_lossy(name))),
-        Err(fault) => eprintln!("{fault:?}"),
+        Err(fault) => eprintln!("{fault}"),
     }
     Ok(())
 }

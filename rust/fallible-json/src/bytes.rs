@@ -4,6 +4,7 @@ use core::convert::Infallible;
 use fallible_iterator::FallibleIterator;
 
 /// The bytes of a text, each after its place, which is how many come before it. It never fails.
+#[derive(Clone, Debug)]
 pub struct PlacedBytes<'a> {
     text: &'a [u8],
     // Where the next byte is.

@@ -6,14 +6,14 @@ use alloc::vec::Vec;
 use program_io::memory::TryVec;
 
 // What encloses values.
-#[derive(Clone, Copy, PartialEq, Eq)]
+#[derive(Clone, Copy, PartialEq, Eq, Debug)]
 pub(crate) enum Container {
     Array,
     Object,
 }
 
 // What may come next.
-#[derive(Clone, Copy)]
+#[derive(Clone, Copy, Debug)]
 pub(crate) enum Expects {
     // A value.
     Value,
@@ -97,6 +97,7 @@ fn next_in(container: Container) -> Expects {
 }
 
 // Where tokens have come to: the containers that are open, of which each is within the one before, and what may come next.
+#[derive(Clone, Debug)]
 pub(crate) struct Nesting {
     pub(crate) containers: Vec<Container>,
     pub(crate) expects: Expects,
@@ -126,8 +127,11 @@ impl Nesting {
             Step::Names => self.expects = Expects::Separator,
             Step::Separates => self.expects = Expects::Value,
             Step::GoesOn => {
-                let Some(innermost) = self.containers.last() else {
-                    return Err(Stop::Unexpected);
+                let innermost = match self.containers.last() {
+                    Some(innermost) => innermost,
+                    _ => {
+                        return Err(Stop::Unexpected);
+                    }
                 };
                 self.expects = next_in(*innermost);
             }

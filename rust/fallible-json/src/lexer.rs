@@ -73,8 +73,11 @@ impl<I: FallibleIterator<Item = (usize, u8)>> FallibleIterator for Tokens<I> {
             Ok(None) => return Ok(None),
             Err(e) => return Err(LexFault::Source(e)),
         };
-        let Some(phase) = begun_by(byte) else {
-            return Err(LexFault::Unknown(first));
+        let phase = match begun_by(byte) {
+            Some(phase) => phase,
+            _ => {
+                return Err(LexFault::Unknown(first));
+            }
         };
         match run_of(&mut self.ahead, first, phase) {
             Ok((last, ended)) => closed(first, last, ended),
@@ -104,5 +107,21 @@ impl<I: FallibleIterator<Item = (usize, u8)>> Tokens<I> {
         Tokens {
             ahead: bytes.peekable(),
         }
+    }
+}
+
+impl<I: FallibleIterator<Item = (usize, u8)> + Clone> Clone for Tokens<I> {
+    fn clone(&self) -> Self {
+        Tokens {
+            ahead: self.ahead.clone(),
+        }
+    }
+}
+
+impl<I: FallibleIterator<Item = (usize, u8)> + core::fmt::Debug> core::fmt::Debug for Tokens<I> {
+    fn fmt(&self, f: &mut core::fmt::Formatter<'_>) -> core::fmt::Result {
+        f.debug_struct("Tokens")
+            .field("ahead", &self.ahead)
+            .finish()
     }
 }

@@ -1,6 +1,7 @@
 #![doc = include_str!("../README.md")]
 #![no_std]
-#![warn(missing_docs)]
+#![cfg_attr(docsrs, feature(doc_cfg))]
+#![warn(missing_debug_implementations, missing_docs)]
 #![forbid(unsafe_code)]
 // The bodies stay as they are proved, where a proof may count by a loop's variable.
 #![allow(
@@ -17,6 +18,8 @@ extern crate alloc;
 extern crate std;
 
 mod bytes;
+mod calls;
+mod errors;
 mod fault;
 mod grammar;
 mod json;
@@ -34,17 +37,26 @@ pub mod words;
 
 pub use bytes::PlacedBytes;
 pub use fault::{JsonFault, TextFault};
-pub use json::MakeJson;
 pub use lexer::{LexFault, Tokens};
-pub use making::MakeTexts;
-pub use minifying::{Misplaced, minify};
+pub use minifying::Misplaced;
 pub use place::place_of;
 pub use report::Prints;
-#[cfg(feature = "std")]
-pub use report::run;
-pub use texts::Texts;
 pub use token::Token;
 pub use wanted::Wanted;
 
-#[doc(no_inline)]
-pub use program_io;
+#[cfg(feature = "std")]
+pub use calls::run;
+pub use calls::{Texts, Unminified, json_of, minify};
+#[cfg(feature = "std")]
+pub use program_io::fault::RunFault;
+pub use program_io::memory::{AllocError, Fault};
+#[cfg(feature = "std")]
+pub use program_io::reading::ReadFailed;
+
+// What the program `json_tokens` goes by.
+#[cfg(feature = "std")]
+#[doc(hidden)]
+pub mod programs {
+    pub use crate::making::MakeTexts;
+    pub use crate::report::run;
+}

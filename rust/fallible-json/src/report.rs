@@ -176,7 +176,7 @@ fn fill<M: MakeTexts, R: ReadBytes>(
     let end = buffer.len().min(held + most);
     match read_after(reader, buffer.as_mut_slice(), held, end) {
         Ok(count) => Ok(count),
-        Err(e) => Err(fault_of_read(&e)),
+        Err(e) => Err(fault_of_read(e)),
     }
 }
 
@@ -227,5 +227,10 @@ pub fn run<M: MakeTexts, R: ReadBytes, W: WriteText>(
         checked = valid - taken;
         read += count;
     }
-    Err(end_with(RunFault::Read, &texts, prints, writer))
+    Err(end_with(
+        RunFault::Read(program_io::reading::ReadFailed::new()),
+        &texts,
+        prints,
+        writer,
+    ))
 }

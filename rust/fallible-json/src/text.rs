@@ -58,13 +58,16 @@ fn run_in(text: &[u8], from: usize, begun: Phase) -> (usize, Phase) {
             return (end, phase);
         }
         let byte = text[end];
-        if let Phase::Inside = phase
-            && byte == b'"'
-        {
-            return (end + 1, Phase::Whole(Token::Text));
+        if let Phase::Inside = phase {
+            if byte == b'"' {
+                return (end + 1, Phase::Whole(Token::Text));
+            }
         }
-        let Some(next) = after(phase, byte) else {
-            return (end, phase);
+        let next = match after(phase, byte) {
+            Some(next) => next,
+            _ => {
+                return (end, phase);
+            }
         };
         phase = next;
         at = end + 1;
@@ -84,8 +87,11 @@ pub(crate) fn token_at(text: &[u8], place: usize) -> (Drawn, usize) {
     if let Some(token) = sign_of(byte) {
         return (Ok(Some((first, first, token))), first + 1);
     }
-    let Some(begun) = letter_begun(byte) else {
-        return (Err(LexFault::Unknown(first)), first + 1);
+    let begun = match letter_begun(byte) {
+        Some(begun) => begun,
+        _ => {
+            return (Err(LexFault::Unknown(first)), first + 1);
+        }
     };
     let (end, phase) = run_in(text, first + 1, begun);
     (closed(first, end - 1, phase), end)

@@ -77,6 +77,7 @@ fn front_at(bytes: &[u8], place: usize) -> Front {
 }
 
 /// The texts of bytes that come a part at a time: those that ended, and what is begun of one.
+#[derive(Clone, Debug)]
 pub struct Texts {
     // Where the tokens of the text have come to.
     pub(crate) nesting: Nesting,

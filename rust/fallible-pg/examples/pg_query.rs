@@ -6,14 +6,11 @@
 //!
 //! Messages, rows, and what is sent are the crate's. The socket and the session's start are written by hand.
 use fallible_iterator::FallibleIterator;
-use fallible_pg::program_io;
 use fallible_pg::{
-    Damage, Format, Messages, PgFault, PgInput, Request, Rows, Unsent, password_message,
-    print_rows, query_message, request_of, startup_message, terminate_message,
+    Buffered, Damage, Format, Lent, Messages, PgFault, PgInput, ReadByte, Request, Rows, RunFault,
+    Unsent, password_message, print_rows, query_message, request_of, startup_message,
+    terminate_message,
 };
-use program_io::ending::ended;
-use program_io::fault::RunFault;
-use program_io::reading::{Buffered, Lent, ReadByte};
 use std::io::{BufReader, Write, stderr, stdout};
 use std::net::TcpStream;
 use std::process::ExitCode;
@@ -58,7 +55,7 @@ fn stopped_by(fault: PgFault) -> Stopped {
     Stopped::Run(match fault {
         PgFault::Server(message) => RunFault::Input(PgInput::Server(message)),
         PgFault::Damaged(place, damage) => RunFault::Input(PgInput::Damaged(place, damage)),
-        PgFault::Read => RunFault::Read,
+        PgFault::Read(failed) => RunFault::Read(failed),
         PgFault::Memory => RunFault::Memory,
     })
 }
@@ -81,7 +78,7 @@ pub fn start(
 ) -> Result<(), Stopped> {
     send(writer, startup_message(session.user, session.database))?;
     let mut place = 0;
-    let mut messages = Messages::new(reader);
+    let mut messages = Messages::unbuffered(reader);
     while let Some(message) = messages.next().map_err(stopped_by)? {
         let at = place;
         place += message.bytes().len() as u64;
@@ -110,7 +107,7 @@ pub fn run(
     };
     start(lent, writer, session)?;
     send(writer, query_message(session.query))?;
-    let mut rows = Rows::new(Messages::new(reader));
+    let mut rows = Rows::new(Messages::unbuffered(reader));
     let format = Format {
         null: b"",
         csv: false,
@@ -133,15 +130,24 @@ fn identity(number: u32) -> &'static str {
     }
 }
 
+/// The status of a fault, as of a run of the program `pg_rows`.
+fn status_of(fault: &RunFault<PgInput>) -> u8 {
+    match fault {
+        RunFault::Input(PgInput::Server(_)) => 1,
+        RunFault::Input(PgInput::Damaged(_, Damage::Cut)) => 6,
+        RunFault::Input(PgInput::Damaged(_, Damage::Tag(b'G' | b'H' | b'W' | b'c' | b'd'))) => 7,
+        RunFault::Input(PgInput::Damaged(..)) => 5,
+        RunFault::Read(_) => 2,
+        RunFault::Memory => 3,
+        RunFault::Write => 4,
+    }
+}
+
 /// Says why no more rows were printed. The status.
 pub fn told(stopped: Result<(), Stopped>, errors: &mut impl Write) -> u8 {
     let (status, line) = match stopped {
         Ok(()) => return 0,
-        Err(Stopped::Run(fault)) => {
-            return match ended(Err(fault), None, errors) {
-                Ok(status) | Err(status) => status,
-            };
-        }
+        Err(Stopped::Run(fault)) => (status_of(&fault), fault.to_string()),
         Err(Stopped::Identity(number)) => {
             let name = identity(number);
             (
@@ -170,9 +176,12 @@ fn main() -> ExitCode {
             return ExitCode::from(2);
         }
     };
-    let [address, user, database, query] = &words[..] else {
-        eprintln!("usage: pg_query ADDRESS USER DATABASE QUERY");
-        return ExitCode::from(2);
+    let (address, user, database, query) = match &words[..] {
+        [address, user, database, query] => (address, user, database, query),
+        _ => {
+            eprintln!("usage: pg_query ADDRESS USER DATABASE QUERY");
+            return ExitCode::from(2);
+        }
     };
     let password = std::env::var("PGPASSWORD").ok();
     let session = Session {
@@ -204,7 +213,7 @@ fn main() -> ExitCode {
 #[cfg(test)]
 mod tests {
     use super::*;
-    use program_io::reading::Bytes;
+    use fallible_pg::Bytes;
     use std::io::Read;
     use std::net::TcpListener;
 

@@ -5,6 +5,7 @@ use crate::numbers::{u16_at, u32_at};
 use fallible_iterator::FallibleIterator;
 
 /// The cells of the message of a row: the bytes of each, or `None` at a NULL. It fails with `Row` where a cell doesn't fit the message, and at bytes after the last cell; then it ends. Those of a row that `Rows` yields never fail.
+#[derive(Clone, Debug)]
 pub struct Cells<'a> {
     bytes: &'a [u8],
     left: u16,

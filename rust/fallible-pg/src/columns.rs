@@ -26,6 +26,7 @@ pub struct Column<'a> {
 }
 
 /// The columns that a message describes. It fails with `Columns` where a column doesn't fit the message, and at bytes after the last; then it ends.
+#[derive(Clone, Debug)]
 pub struct Columns<'a> {
     bytes: &'a [u8],
     left: u16,

@@ -1,6 +1,7 @@
 #![doc = include_str!("../README.md")]
 #![no_std]
-#![warn(missing_docs)]
+#![cfg_attr(docsrs, feature(doc_cfg))]
+#![warn(missing_debug_implementations, missing_docs)]
 #![forbid(unsafe_code)]
 // The bodies stay as they are proved, where a proof may count by a loop's variable.
 #![allow(
@@ -17,9 +18,12 @@ extern crate alloc;
 extern crate std;
 
 mod base64;
+#[cfg(feature = "std")]
+mod buffering;
 mod cells;
 mod columns;
 mod csv;
+mod errors;
 mod fault;
 mod kind;
 mod message;
@@ -58,5 +62,9 @@ pub use text::HoldText;
 #[cfg(feature = "std")]
 pub use text::write_row;
 
-#[doc(no_inline)]
-pub use program_io;
+#[cfg(feature = "std")]
+pub use program_io::fault::RunFault;
+pub use program_io::memory::AllocError;
+#[cfg(feature = "std")]
+pub use program_io::reading::Buffered;
+pub use program_io::reading::{Bytes, Lent, ReadByte, ReadFailed};

@@ -2,7 +2,7 @@
 
 use alloc::vec::Vec;
 /// A message of a server: its tag, its length of four bytes, which counts these and the body, and the body.
-#[derive(Debug)]
+#[derive(Clone, Debug, PartialEq, Eq)]
 pub struct Message {
     bytes: Vec<u8>,
 }

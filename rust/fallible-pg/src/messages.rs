@@ -8,6 +8,7 @@ use fallible_iterator::FallibleIterator;
 /// The messages of a reader, as a server sends them: each is its tag, its length and its body.
 ///
 /// A draw reads the bytes of one message, one at a time or by what stands in the reader's buffer, and none of the next. It takes room for what has come alone, whatever length is stated. They end where the bytes end between two messages. Where the bytes end within one it fails with `Damaged` and `Cut`, at a length that no message has with `Damaged` and `Length`, and with `Read` and `Memory`. After 2 ^ 63 bytes it fails with `Read`. After the end and after a fault each call returns `Ok(None)` and reads no more.
+#[derive(Debug)]
 pub struct Messages<R> {
     reader: R,
     // how many bytes were read; none after the end and after a fault
@@ -18,22 +19,8 @@ pub struct Messages<R> {
 const MAX_PLACE: u64 = 0x8000_0000_0000_0000;
 
 impl<R: ReadMessage> Messages<R> {
-    /// The messages of this reader. It reads nothing.
-    ///
-    /// <details><summary>Contract</summary>
-    ///
-    /// As it is proved, in [these words](crate::words):
-    ///
-    /// ```text
-    /// ensures parts { messages_parts result ≡ (reader, Some 0) }
-    /// ensures lists { (bytes : List ℕ) → NoReadFails R.stays → R.left reader ≡ Some bytes
-    ///     → length bytes ≤ 2 ^ 63
-    ///     → ListsMade HasBytes
-    ///     (seen_as messages_parts (unbounded_contract (message_step R.left R.stays R.no_room))).steps
-    ///     BecomesMemory result (messages_of 0 bytes) }
-    /// ```
-    /// </details>
-    pub fn new(reader: R) -> Messages<R> {
+    /// The messages of this reader, with no buffer before it: a reader of std is asked for one byte a call, and no byte after a message is read. It reads nothing.
+    pub fn unbuffered(reader: R) -> Messages<R> {
         Messages {
             reader,
             place: Some(0),
@@ -52,11 +39,14 @@ impl<R: ReadMessage> FallibleIterator for Messages<R> {
     type Error = PgFault;
 
     fn next(&mut self) -> Result<Option<Message>, PgFault> {
-        let Some(place) = self.place.take() else {
-            return Ok(None);
+        let place = match self.place.take() {
+            Some(place) => place,
+            _ => {
+                return Ok(None);
+            }
         };
         if place > MAX_PLACE {
-            return Err(PgFault::Read);
+            return Err(PgFault::Read(program_io::reading::ReadFailed::new()));
         }
         match self.reader.read_message() {
             Ok(Some(message)) => {
@@ -65,7 +55,7 @@ impl<R: ReadMessage> FallibleIterator for Messages<R> {
             }
             Ok(None) => Ok(None),
             Err(Broken::Damaged(damage)) => Err(PgFault::Damaged(place, damage)),
-            Err(Broken::Read) => Err(PgFault::Read),
+            Err(Broken::Read(failed)) => Err(PgFault::Read(failed)),
             Err(Broken::Memory) => Err(PgFault::Memory),
         }
     }

@@ -21,7 +21,7 @@ pub enum PgInput {
 }
 
 // The field of a refusal that a letter names.
-fn field(letter: u8, fields: &[u8]) -> &[u8] {
+pub(crate) fn field(letter: u8, fields: &[u8]) -> &[u8] {
     let mut begins = true;
     for place in 0..fields.len() {
         let byte = fields[place];
@@ -34,12 +34,12 @@ fn field(letter: u8, fields: &[u8]) -> &[u8] {
 }
 
 // Whether the tag is one of COPY.
-fn is_copy(tag: u8) -> bool {
+pub(crate) fn is_copy(tag: u8) -> bool {
     tag == b'G' || tag == b'H' || tag == b'W' || tag == b'c' || tag == b'd'
 }
 
 // Whether the tag is that of what a function's call returns.
-fn is_call(tag: u8) -> bool {
+pub(crate) fn is_call(tag: u8) -> bool {
     tag == b'V'
 }
 

@@ -8,12 +8,12 @@ use program_io::memory::TryVec;
 use program_io::reading::{ReadByte, Unread, read_up_to};
 
 /// Why a message wasn't read.
-#[derive(Clone, Copy, Debug, PartialEq, Eq)]
+#[derive(Debug)]
 pub enum Broken {
     /// What came is damaged.
     Damaged(Damage),
     /// A read failed.
-    Read,
+    Read(program_io::reading::ReadFailed),
     /// An allocation failed.
     Memory,
 }
@@ -25,7 +25,7 @@ const MAX_LENGTH: u32 = 0x3fff_ffff;
 fn broken_by(why: Unread) -> Broken {
     match why {
         Unread::End => Broken::Damaged(Damage::Cut),
-        Unread::Failed => Broken::Read,
+        Unread::Failed(failed) => Broken::Read(failed),
         Unread::Memory => Broken::Memory,
     }
 }
@@ -66,7 +66,7 @@ fn read_tag<R: ReadByte>(reader: &mut R) -> Result<Option<Vec<u8>>, Broken> {
             Err(_) => Err(Broken::Memory),
         },
         Ok(None) => Ok(None),
-        Err(_) => Err(Broken::Read),
+        Err(failed) => Err(Broken::Read(failed)),
     }
 }
 

@@ -17,7 +17,7 @@ fn run_fault(fault: PgFault) -> RunFault<PgInput> {
     match fault {
         PgFault::Server(message) => RunFault::Input(PgInput::Server(message)),
         PgFault::Damaged(place, damage) => RunFault::Input(PgInput::Damaged(place, damage)),
-        PgFault::Read => RunFault::Read,
+        PgFault::Read(failed) => RunFault::Read(failed),
         PgFault::Memory => RunFault::Memory,
     }
 }

@@ -11,7 +11,7 @@ use crate::reading::ReadMessage;
 use fallible_iterator::FallibleIterator;
 
 /// A row, whose cells are undamaged.
-#[derive(Debug)]
+#[derive(Clone, Debug, PartialEq, Eq)]
 pub struct Row {
     message: Message,
     statement: u64,
@@ -62,7 +62,7 @@ impl Row {
 }
 
 /// What the results of a query bring.
-#[derive(Debug)]
+#[derive(Clone, Debug, PartialEq, Eq)]
 pub enum Reply {
     /// A row.
     Row(Row),
@@ -94,6 +94,7 @@ impl Reply {
 /// A draw passes the other messages: the description of rows, the end of a statement, those of a prepared statement and such. It reads the bytes of these and of the one that decides, and none of the next. A refusal of the server is the failure `Server`, and the next draw goes on. A row whose cells don't fill it, a message of a tag that isn't read, and each fault of the messages is a failure after which each call returns `Ok(None)` and reads no more. So is an end of the messages before the server is ready: `Damaged` and `Cut`.
 ///
 /// Over a reader that tells its bytes they are a function of these.
+#[derive(Debug)]
 pub struct Rows<R> {
     messages: Messages<R>,
     progress: Progress,

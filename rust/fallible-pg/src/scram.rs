@@ -198,11 +198,17 @@ pub fn answer_of<H: Hash>(
     asked: &[u8],
 ) -> Result<Option<Answer>, Unsent> {
     let parts = parts_of(asked);
-    let Some(salt) = from_base64(parts.salt)? else {
-        return Ok(None);
+    let salt = match from_base64(parts.salt)? {
+        Some(salt) => salt,
+        _ => {
+            return Ok(None);
+        }
     };
-    let Some(rounds) = rounds_of(parts.digits) else {
-        return Ok(None);
+    let rounds = match rounds_of(parts.digits) {
+        Some(rounds) => rounds,
+        _ => {
+            return Ok(None);
+        }
     };
     if !has_parts(asked, parts)? || !begins_with(parts.nonce, own) {
         return Ok(None);

@@ -130,7 +130,6 @@ impl Reason {
 fn reason_of(error: &io::Error) -> Reason {
     match error.kind() {
         ErrorKind::NotFound => Reason::Missing,
-        ErrorKind::IsADirectory => Reason::Folder,
         ErrorKind::PermissionDenied => Reason::Forbidden,
         _ => Reason::Other,
     }
@@ -150,6 +149,7 @@ fn opened<R: Files>(rt: &R, path: &str) -> Result<R::File, Reason> {
 }
 
 /// What is wrong with a program's words.
+#[derive(Debug)]
 pub enum Refusal<'a> {
     /// This word asks for nothing that there is. The usage text is told after it.
     Word(String, &'a str),
@@ -209,6 +209,7 @@ pub fn told<E: WriteText>(fault: &RunFault<Refusal<'_>>, errors: &mut E) -> u8 {
 
 /// What a program reads.
 #[cfg(feature = "std")]
+#[derive(Debug)]
 pub enum Input<S, F> {
     /// Its standard input.
     Standard(S),
@@ -228,6 +229,7 @@ impl<S: Read, F: Read> Read for Input<S, F> {
 
 /// What a program reads, and the word that named it.
 #[cfg(feature = "std")]
+#[derive(Debug)]
 pub struct Given<S, F> {
     /// What it reads.
     pub input: Input<S, F>,

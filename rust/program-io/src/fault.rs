@@ -32,12 +32,12 @@ pub fn write_placed<W: WriteText>(
 }
 
 /// Why a run made no report.
-#[derive(Clone, Copy, Debug, PartialEq, Eq)]
+#[derive(Debug)]
 pub enum RunFault<F> {
     /// The input has a fault.
     Input(F),
     /// A read failed.
-    Read,
+    Read(crate::reading::ReadFailed),
     /// An allocation failed, or a read for want of memory.
     Memory,
     /// The report could not be written.
@@ -53,10 +53,10 @@ impl<F> From<AllocError> for RunFault<F> {
 
 /// What a failed read comes to: `Memory` if it failed for want of memory, and otherwise `Read`.
 #[cfg(feature = "std")]
-pub fn fault_of_read<F>(error: &io::Error) -> RunFault<F> {
+pub fn fault_of_read<F>(error: io::Error) -> RunFault<F> {
     match error.kind() {
         ErrorKind::OutOfMemory => RunFault::Memory,
-        _ => RunFault::Read,
+        _ => RunFault::Read(error.into()),
     }
 }
 
@@ -66,7 +66,7 @@ impl<F: InputFault> RunFault<F> {
     fn exit_status(&self) -> u8 {
         match self {
             RunFault::Input(fault) => fault.status(),
-            RunFault::Read => 2,
+            RunFault::Read(_) => 2,
             RunFault::Memory => 3,
             RunFault::Write => 4,
         }
@@ -75,7 +75,7 @@ impl<F: InputFault> RunFault<F> {
     // Writes what stands in front of the line that tells of it: the name of the input, where it has one, at a fault of it and at a failed read.
     fn write_front<W: WriteText>(&self, name: Option<&str>, errors: &mut W) -> io::Result<()> {
         match self {
-            RunFault::Input(_) | RunFault::Read => write_name(name, errors),
+            RunFault::Input(_) | RunFault::Read(_) => write_name(name, errors),
             RunFault::Memory | RunFault::Write => Ok(()),
         }
     }
@@ -84,7 +84,7 @@ impl<F: InputFault> RunFault<F> {
     fn write_rest<W: WriteText>(&self, errors: &mut W) -> io::Result<()> {
         match self {
             RunFault::Input(fault) => fault.write_line(errors),
-            RunFault::Read => errors.write_text("read failed\n"),
+            RunFault::Read(_) => errors.write_text("read failed\n"),
             RunFault::Memory => errors.write_text("no memory\n"),
             RunFault::Write => errors.write_text("write failed\n"),
         }
@@ -100,8 +100,11 @@ impl<F: InputFault> RunFault<F> {
 // Writes the name of an input that has one, and a colon.
 #[cfg(feature = "std")]
 fn write_name<W: WriteText>(name: Option<&str>, errors: &mut W) -> io::Result<()> {
-    let Some(name) = name else {
-        return Ok(());
+    let name = match name {
+        Some(name) => name,
+        _ => {
+            return Ok(());
+        }
     };
     write_shown(name, errors)?;
     errors.write_bytes(b": ")

@@ -1,6 +1,7 @@
 #![doc = include_str!("../README.md")]
 #![no_std]
-#![warn(missing_docs)]
+#![cfg_attr(docsrs, feature(doc_cfg))]
+#![warn(missing_debug_implementations, missing_docs)]
 #![forbid(unsafe_code)]
 // The bodies stay as they are proved, where a proof may count by a loop's variable.
 #![allow(
@@ -18,6 +19,8 @@ extern crate std;
 
 pub mod arguments;
 pub mod ending;
+mod errors;
+mod failed;
 pub mod fault;
 pub mod memory;
 pub mod numbers;

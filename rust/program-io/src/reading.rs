@@ -81,9 +81,7 @@ pub fn read_after<R: ReadBytes>(
     read_retried(reader, &mut buf[held..end])
 }
 
-/// A read failed.
-#[derive(Debug)]
-pub struct ReadFailed;
+pub use crate::failed::ReadFailed;
 
 /// Something that yields its bytes one at a time, as every reader does.
 pub trait ReadByte: Sized {
@@ -97,14 +95,14 @@ pub trait ReadByte: Sized {
     fn consume_buffered(&mut self, count: usize);
 }
 
-// One read, for one byte. An interrupted read fails too.
+// One read, for one byte. An interrupted read is tried again.
 #[cfg(feature = "std")]
 fn byte_of<R: ReadBytes>(reader: &mut R) -> Result<Option<u8>, ReadFailed> {
     let mut byte = [0u8; 1];
-    match reader.read_once(&mut byte) {
+    match read_retried(reader, &mut byte) {
         Ok(0) => Ok(None),
         Ok(_) => Ok(Some(byte[0])),
-        Err(_) => Err(ReadFailed),
+        Err(error) => Err(ReadFailed::from(error)),
     }
 }
 
@@ -125,6 +123,7 @@ impl<R: Read> ReadByte for R {
 }
 
 /// A reader that is lent. It stays the same reference, so what the reads leave is known to its owner.
+#[derive(Debug)]
 pub struct Lent<'a, R> {
     /// The reader.
     pub reader: &'a mut R,
@@ -146,6 +145,7 @@ impl<R: ReadByte> ReadByte for Lent<'_, R> {
 
 /// A buffered reader that tells what its buffer holds, so that what stands there whole is read at once.
 #[cfg(feature = "std")]
+#[derive(Debug)]
 pub struct Buffered<R> {
     reader: BufReader<R>,
     // how many bytes of its buffer were yielded
@@ -164,10 +164,13 @@ impl<R: Read> Buffered<R> {
 impl<R: Read> ReadByte for Buffered<R> {
     /// The next byte of the buffer. If that is empty, one read fills it, and this is what it yields.
     fn read_byte(&mut self) -> Result<Option<u8>, ReadFailed> {
-        let Some(byte) = self.reader.buffer().get(self.given) else {
-            self.reader.consume(self.given);
-            self.given = 0;
-            return byte_of(&mut self.reader);
+        let byte = match self.reader.buffer().get(self.given) {
+            Some(byte) => byte,
+            _ => {
+                self.reader.consume(self.given);
+                self.given = 0;
+                return byte_of(&mut self.reader);
+            }
         };
         let byte = *byte;
         self.given += 1;
@@ -185,6 +188,7 @@ impl<R: Read> ReadByte for Buffered<R> {
 }
 
 /// Bytes, as a reader whose reads never fail. Of `&[u8]` as a reader that isn't known where any reader may stand.
+#[derive(Clone, Debug)]
 pub struct Bytes<'a> {
     bytes: &'a [u8],
 }
@@ -198,8 +202,11 @@ impl<'a> Bytes<'a> {
 
 impl ReadByte for Bytes<'_> {
     fn read_byte(&mut self) -> Result<Option<u8>, ReadFailed> {
-        let Some((first, rest)) = self.bytes.split_first() else {
-            return Ok(None);
+        let (first, rest) = match self.bytes.split_first() {
+            Some((first, rest)) => (first, rest),
+            _ => {
+                return Ok(None);
+            }
         };
         self.bytes = rest;
         Ok(Some(*first))
@@ -218,12 +225,12 @@ impl ReadByte for Bytes<'_> {
 }
 
 /// Why fewer bytes came than were wanted.
-#[derive(Clone, Copy, Debug, PartialEq, Eq)]
+#[derive(Debug)]
 pub enum Unread {
     /// The reader's end was met.
     End,
     /// A read failed.
-    Failed,
+    Failed(crate::reading::ReadFailed),
     /// An allocation failed.
     Memory,
 }
@@ -247,7 +254,7 @@ fn read_some<R: ReadByte>(reader: &mut R, bytes: &mut Vec<u8>, room: usize) -> R
             Err(_) => Err(Unread::Memory),
         },
         Ok(None) => Err(Unread::End),
-        Err(_) => Err(Unread::Failed),
+        Err(failed) => Err(Unread::Failed(failed)),
     }
 }
 

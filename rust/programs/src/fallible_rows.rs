@@ -26,7 +26,7 @@ pub fn run<R: ReadByte, W: WriteText>(
     let count = match counting::count_above(reader) {
         Ok(count) => count,
         Err(RowFault::Row(place)) => return Err(RunFault::Input(BadRow { place })),
-        Err(RowFault::Read) => return Err(RunFault::Read),
+        Err(RowFault::Read) => return Err(RunFault::Read(program_io::reading::ReadFailed::new())),
     };
     match writer.write_text(format_args!("{count}\n")) {
         Ok(()) => Ok(()),

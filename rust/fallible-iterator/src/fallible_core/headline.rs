@@ -28,3 +28,33 @@ pub fn law_headline<I: FallibleIterator>() {}
 /// ```
 /// </details>
 pub fn law_headline_back<I: DoubleEndedFallibleIterator>() {}
+
+/// For every source and every nest of adapters: where its type says so, the upper bound of each hint is at least the number of items of each run, and the lower bound at most that of each run that ends. Where that is, the `sound` of its contract says, of where it is so of the types that it is made of. That of a type that states none, as your own need not, says just that they are.
+///
+/// <details><summary>Contract</summary>
+///
+/// As it is proved, in [these words](crate::words):
+///
+/// ```text
+/// ensures above { (s : I) (h : ℕ × Option ℕ) → I.contract.hints s h → I.contract.sound.above s h.1
+///     → BoundsAbove I.contract.steps s h.1 }
+/// ensures below { (s : I) (h : ℕ × Option ℕ) → I.contract.hints s h → I.contract.sound.below s h.0
+///     → BoundsBelow I.contract.steps s h.0 }
+/// ```
+/// </details>
+pub fn law_hints<I: FallibleIterator>() {}
+
+/// The same of calls of `next_back`.
+///
+/// <details><summary>Contract</summary>
+///
+/// As it is proved, in [these words](crate::words):
+///
+/// ```text
+/// ensures above { (s : I) (h : ℕ × Option ℕ) → I.contract.hints s h → I.ends.sound.above s h.1
+///     → BoundsAbove I.ends.steps s h.1 }
+/// ensures below { (s : I) (h : ℕ × Option ℕ) → I.contract.hints s h → I.ends.sound.below s h.0
+///     → BoundsBelow I.ends.steps s h.0 }
+/// ```
+/// </details>
+pub fn law_hints_back<I: DoubleEndedFallibleIterator>() {}

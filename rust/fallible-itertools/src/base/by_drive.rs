@@ -13,13 +13,13 @@ pub fn folded<B, E: From<D>, D>(answer: Result<Option<E>, D>, value: Option<B>) 
     }
 }
 
-/// In the `impl` of the trait for a type that has `fold_by` or `fold_back_by` of its own.
+/// In the `impl` of the trait for a type that has `by_turns` or `back_by_turns` of its own.
 macro_rules! by_drive {
     (drive) => {
-        crate::base::by_drive!(@ try_fold, fold_by);
+        crate::base::by_drive!(@ try_fold, by_turns);
     };
     (drive_back) => {
-        crate::base::by_drive!(@ try_rfold, fold_back_by);
+        crate::base::by_drive!(@ try_rfold, back_by_turns);
     };
     (@ $call:ident, $fold:ident) => {
         #[inline(always)]

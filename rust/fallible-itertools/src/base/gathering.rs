@@ -8,6 +8,6 @@ use fallible_iterator::FallibleIterator;
 /// The items up to the end, or the first failure.
 pub fn gathered<I: FallibleIterator>(mut it: I) -> Result<Vec<I::Item>, I::Error> {
     let mut made = Extended(Vec::new());
-    whole(it.fold_by(&mut made, &CollectTurn))?;
+    whole(it.by_turns(&mut made, &CollectTurn))?;
     Ok(made.0)
 }

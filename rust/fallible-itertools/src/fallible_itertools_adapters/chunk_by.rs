@@ -34,7 +34,7 @@ impl<I: FallibleIterator, K: PartialEq, F: FnMut(&I::Item) -> Result<K, I::Error
     ChunkBy<I, K, F>
 {
     #[inline(always)]
-    fn fold_by<C, R, T: Turn<C, (K, Vec<I::Item>), R>>(
+    fn by_turns<C, R, T: Turn<C, (K, Vec<I::Item>), R>>(
         &mut self,
         state: &mut C,
         turn: &T,

@@ -33,7 +33,7 @@ impl<I: FallibleIterator> Chunks<I> {
 // The fold by turns, by which `try_fold` goes.
 impl<I: FallibleIterator> Chunks<I> {
     #[inline(always)]
-    fn fold_by<C, R, K: Turn<C, Vec<I::Item>, R>>(
+    fn by_turns<C, R, K: Turn<C, Vec<I::Item>, R>>(
         &mut self,
         state: &mut C,
         turn: &K,

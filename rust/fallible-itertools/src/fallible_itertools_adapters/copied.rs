@@ -22,7 +22,7 @@ impl<I> Copied<I> {
 // The fold by turns, by which `try_fold` goes.
 impl<'a, T: Copy + 'a, I: FallibleIterator<Item = &'a T>> Copied<I> {
     #[inline(always)]
-    fn fold_by<C, R, K: Turn<C, T, R>>(
+    fn by_turns<C, R, K: Turn<C, T, R>>(
         &mut self,
         state: &mut C,
         turn: &K,
@@ -51,7 +51,7 @@ impl<'a, T: Copy + 'a, I: FallibleIterator<Item = &'a T>> FallibleIterator for C
 // The fold by turns, by which `try_fold` goes.
 impl<'a, T: Copy + 'a, I: DoubleEndedFallibleIterator<Item = &'a T>> Copied<I> {
     #[inline(always)]
-    fn fold_back_by<C, R, K: Turn<C, T, R>>(
+    fn back_by_turns<C, R, K: Turn<C, T, R>>(
         &mut self,
         state: &mut C,
         turn: &K,

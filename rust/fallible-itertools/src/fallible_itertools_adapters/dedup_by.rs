@@ -30,7 +30,7 @@ impl<I: FallibleIterator, F> DedupBy<I, F> {
 // The fold by turns, by which `try_fold` goes.
 impl<I: FallibleIterator, F: FnMut(&I::Item, &I::Item) -> Result<bool, I::Error>> DedupBy<I, F> {
     #[inline(always)]
-    fn fold_by<C, R, K: Turn<C, I::Item, R>>(
+    fn by_turns<C, R, K: Turn<C, I::Item, R>>(
         &mut self,
         state: &mut C,
         turn: &K,

@@ -32,7 +32,7 @@ impl<I: FallibleIterator, K: PartialEq, F: FnMut(&I::Item) -> Result<K, I::Error
     DedupByKey<I, K, F>
 {
     #[inline(always)]
-    fn fold_by<C, R, T: Turn<C, I::Item, R>>(
+    fn by_turns<C, R, T: Turn<C, I::Item, R>>(
         &mut self,
         state: &mut C,
         turn: &T,

@@ -32,7 +32,7 @@ impl<I: FallibleIterator, F: FnMut(&I::Item, &I::Item) -> Result<bool, I::Error>
     DedupByWithCount<I, F>
 {
     #[inline(always)]
-    fn fold_by<C, R, K: Turn<C, (usize, I::Item), R>>(
+    fn by_turns<C, R, K: Turn<C, (usize, I::Item), R>>(
         &mut self,
         state: &mut C,
         turn: &K,

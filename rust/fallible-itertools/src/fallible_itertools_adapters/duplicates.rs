@@ -38,7 +38,7 @@ where
     I::Item: Eq + Hash,
 {
     #[inline(always)]
-    fn fold_by<C, R, K: Turn<C, I::Item, R>>(
+    fn by_turns<C, R, K: Turn<C, I::Item, R>>(
         &mut self,
         state: &mut C,
         turn: &K,
@@ -57,7 +57,7 @@ where
 
     /// Draws until an item comes that equals exactly one before it, or a failure or an `Ok(None)`.
     fn next(&mut self) -> Result<Option<I::Item>, I::Error> {
-        self.fold_by(&mut (), &FirstTurn)
+        self.by_turns(&mut (), &FirstTurn)
     }
 
     fn size_hint(&self) -> (usize, Option<usize>) {

@@ -26,7 +26,7 @@ impl<I, E> ErrInto<I, E> {
 // The fold by turns, by which `try_fold` goes.
 impl<I: FallibleIterator, E: From<I::Error>> ErrInto<I, E> {
     #[inline(always)]
-    fn fold_by<C, R, K: Turn<C, I::Item, R>>(
+    fn by_turns<C, R, K: Turn<C, I::Item, R>>(
         &mut self,
         state: &mut C,
         turn: &K,
@@ -89,7 +89,7 @@ impl<I: FallibleIterator, E: From<I::Error>> FallibleIterator for ErrInto<I, E> 
 // The fold by turns, by which `try_fold` goes.
 impl<I: DoubleEndedFallibleIterator, E: From<I::Error>> ErrInto<I, E> {
     #[inline(always)]
-    fn fold_back_by<C, R, K: Turn<C, I::Item, R>>(
+    fn back_by_turns<C, R, K: Turn<C, I::Item, R>>(
         &mut self,
         state: &mut C,
         turn: &K,

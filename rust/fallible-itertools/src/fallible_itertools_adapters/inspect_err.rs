@@ -23,7 +23,7 @@ impl<I, F> InspectErr<I, F> {
 // The fold by turns, by which `try_fold` goes.
 impl<I: FallibleIterator, F: FnMut(&I::Error)> InspectErr<I, F> {
     #[inline(always)]
-    fn fold_by<C, R, K: Turn<C, I::Item, R>>(
+    fn by_turns<C, R, K: Turn<C, I::Item, R>>(
         &mut self,
         state: &mut C,
         turn: &K,
@@ -66,7 +66,7 @@ impl<I: FallibleIterator, F: FnMut(&I::Error)> FallibleIterator for InspectErr<I
 // The fold by turns, by which `try_fold` goes.
 impl<I: DoubleEndedFallibleIterator, F: FnMut(&I::Error)> InspectErr<I, F> {
     #[inline(always)]
-    fn fold_back_by<C, R, K: Turn<C, I::Item, R>>(
+    fn back_by_turns<C, R, K: Turn<C, I::Item, R>>(
         &mut self,
         state: &mut C,
         turn: &K,

@@ -32,7 +32,7 @@ where
     I::Item: Clone,
 {
     #[inline(always)]
-    fn fold_by<C, R, K: Turn<C, I::Item, R>>(
+    fn by_turns<C, R, K: Turn<C, I::Item, R>>(
         &mut self,
         state: &mut C,
         turn: &K,

@@ -23,7 +23,7 @@ impl<I, F> OrElse<I, F> {
 // The fold by turns, by which `try_fold` goes.
 impl<I: FallibleIterator, E, F: FnMut(I::Error) -> Result<Option<I::Item>, E>> OrElse<I, F> {
     #[inline(always)]
-    fn fold_by<C, R, K: Turn<C, I::Item, R>>(
+    fn by_turns<C, R, K: Turn<C, I::Item, R>>(
         &mut self,
         state: &mut C,
         turn: &K,
@@ -41,7 +41,7 @@ impl<I: FallibleIterator, E, F: FnMut(I::Error) -> Result<Option<I::Item>, E>> F
 
     /// Draws until an item or an `Ok(None)` comes, or a failure for which the closure returns an item or fails.
     fn next(&mut self) -> Result<Option<I::Item>, E> {
-        self.fold_by(&mut (), &FirstTurn)
+        self.by_turns(&mut (), &FirstTurn)
     }
 
     fn size_hint(&self) -> (usize, Option<usize>) {
@@ -56,7 +56,7 @@ impl<I: DoubleEndedFallibleIterator, E, F: FnMut(I::Error) -> Result<Option<I::I
     OrElse<I, F>
 {
     #[inline(always)]
-    fn fold_back_by<C, R, K: Turn<C, I::Item, R>>(
+    fn back_by_turns<C, R, K: Turn<C, I::Item, R>>(
         &mut self,
         state: &mut C,
         turn: &K,
@@ -70,7 +70,7 @@ impl<I: DoubleEndedFallibleIterator, E, F: FnMut(I::Error) -> Result<Option<I::I
 {
     /// Draws from the back until an item or an `Ok(None)` comes, or a failure for which the closure returns an item or fails.
     fn next_back(&mut self) -> Result<Option<I::Item>, E> {
-        self.fold_back_by(&mut (), &FirstTurn)
+        self.back_by_turns(&mut (), &FirstTurn)
     }
 
     crate::base::by_drive!(drive_back);

@@ -32,7 +32,6 @@ pub trait PeekingNext: FallibleIterator + Sized {
     ///
     /// ```
     /// # use fallible_iterator::{FallibleIterator, convert};
-    /// # use fallible_itertools::FallibleItertools;
     /// # use fallible_itertools::PeekingNext;
     /// let mut it = convert([Ok::<u32, u8>(150), Ok(7), Ok(700)].into_iter()).peekable();
     /// let above = it.peeking_take_while(|reading| Ok(*reading > 100)).count();

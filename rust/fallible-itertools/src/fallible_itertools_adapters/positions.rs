@@ -23,7 +23,7 @@ impl<I, F> Positions<I, F> {
 // The fold by turns, by which `try_fold` goes.
 impl<I: FallibleIterator, F: FnMut(I::Item) -> Result<bool, I::Error>> Positions<I, F> {
     #[inline(always)]
-    fn fold_by<C, R, K: Turn<C, usize, R>>(
+    fn by_turns<C, R, K: Turn<C, usize, R>>(
         &mut self,
         state: &mut C,
         turn: &K,
@@ -41,7 +41,7 @@ impl<I: FallibleIterator, F: FnMut(I::Item) -> Result<bool, I::Error>> FallibleI
 
     /// Draws until the closure returns true, or a failure or an `Ok(None)` comes. It calls the closure on each item.
     fn next(&mut self) -> Result<Option<usize>, I::Error> {
-        self.fold_by(&mut (), &FirstTurn)
+        self.by_turns(&mut (), &FirstTurn)
     }
 
     fn size_hint(&self) -> (usize, Option<usize>) {

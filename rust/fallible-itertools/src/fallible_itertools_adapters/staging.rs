@@ -464,7 +464,7 @@ fn drive_items<
     turn: &K,
 ) -> Result<Option<AnswerAndDue<R, G::Due, I::Error>>, I::Error> {
     let mut both = Beside { c: state, p: held };
-    it.fold_by(&mut both, &StageTurn { adapter, turn })
+    it.by_turns(&mut both, &StageTurn { adapter, turn })
 }
 
 // What the fold returns at a stop of its source, and what is due then.

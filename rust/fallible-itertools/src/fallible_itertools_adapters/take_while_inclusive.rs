@@ -29,7 +29,7 @@ impl<I, P> TakeWhileInclusive<I, P> {
 // The fold by turns, by which `try_fold` goes.
 impl<I: FallibleIterator, P: FnMut(&I::Item) -> Result<bool, I::Error>> TakeWhileInclusive<I, P> {
     #[inline(always)]
-    fn fold_by<C, R, K: Turn<C, I::Item, R>>(
+    fn by_turns<C, R, K: Turn<C, I::Item, R>>(
         &mut self,
         state: &mut C,
         turn: &K,

@@ -24,7 +24,7 @@ impl<I: FallibleIterator> Tuples<I> {
 // The fold by turns, by which `try_fold` goes.
 impl<I: FallibleIterator> Tuples<I> {
     #[inline(always)]
-    fn fold_by<C, R, K: Turn<C, (I::Item, I::Item), R>>(
+    fn by_turns<C, R, K: Turn<C, (I::Item, I::Item), R>>(
         &mut self,
         state: &mut C,
         turn: &K,

@@ -34,7 +34,7 @@ impl<I: FallibleIterator, K: Eq + Hash, F: FnMut(&I::Item) -> Result<K, I::Error
     UniqueBy<I, K, F>
 {
     #[inline(always)]
-    fn fold_by<C, R, T: Turn<C, I::Item, R>>(
+    fn by_turns<C, R, T: Turn<C, I::Item, R>>(
         &mut self,
         state: &mut C,
         turn: &T,
@@ -52,7 +52,7 @@ impl<I: FallibleIterator, K: Eq + Hash, F: FnMut(&I::Item) -> Result<K, I::Error
 
     /// Draws until an item comes whose key equals none before it, or a failure or an `Ok(None)`. It calls the closure on each item.
     fn next(&mut self) -> Result<Option<I::Item>, I::Error> {
-        self.fold_by(&mut (), &FirstTurn)
+        self.by_turns(&mut (), &FirstTurn)
     }
 
     fn size_hint(&self) -> (usize, Option<usize>) {

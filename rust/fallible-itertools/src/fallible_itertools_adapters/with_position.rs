@@ -9,7 +9,7 @@ use core::mem::replace;
 use fallible_iterator::FallibleIterator;
 
 /// Where an item stands among the items between two stops. A stop is `Ok(None)` or a failure.
-#[derive(Clone, Copy, Debug, PartialEq, Eq)]
+#[derive(Clone, Copy, Debug, PartialEq, Eq, Hash)]
 pub enum Position {
     /// the first of several items
     First,
@@ -44,7 +44,7 @@ impl<I: FallibleIterator> WithPosition<I> {
 // The fold by turns, by which `try_fold` goes.
 impl<I: FallibleIterator> WithPosition<I> {
     #[inline(always)]
-    fn fold_by<C, R, K: Turn<C, (Position, I::Item), R>>(
+    fn by_turns<C, R, K: Turn<C, (Position, I::Item), R>>(
         &mut self,
         state: &mut C,
         turn: &K,

@@ -30,7 +30,7 @@ impl<T, U> Interleave<T, U> {
 // The fold by turns, by which `try_fold` goes.
 impl<T: FallibleIterator, U: FallibleIterator<Item = T::Item, Error = T::Error>> Interleave<T, U> {
     #[inline(always)]
-    fn fold_by<C, R, K: Turn<C, T::Item, R>>(
+    fn by_turns<C, R, K: Turn<C, T::Item, R>>(
         &mut self,
         state: &mut C,
         turn: &K,

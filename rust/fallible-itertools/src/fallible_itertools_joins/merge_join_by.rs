@@ -36,7 +36,7 @@ impl<
 > MergeJoinBy<T, U, F>
 {
     #[inline(always)]
-    fn fold_by<C, R, K: Turn<C, EitherOrBoth<T::Item, U::Item>, R>>(
+    fn by_turns<C, R, K: Turn<C, EitherOrBoth<T::Item, U::Item>, R>>(
         &mut self,
         state: &mut C,
         turn: &K,

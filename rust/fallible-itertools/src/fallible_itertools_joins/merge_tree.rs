@@ -4,6 +4,7 @@ use alloc::boxed::Box;
 use fallible_iterator::FallibleIterator;
 
 /// A tree of sources in order. A branch has two sides, and of each what it yielded and isn't yielded by the branch yet: an item, or an `Ok(None)`, after which the side isn't drawn again.
+#[derive(Clone, Debug)]
 pub enum MergeTree<I: FallibleIterator> {
     Ended,
     Source(I),

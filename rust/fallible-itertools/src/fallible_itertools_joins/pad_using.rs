@@ -34,7 +34,7 @@ impl<I, F> PadUsing<I, F> {
 // The fold by turns, by which `try_fold` goes.
 impl<I: FallibleIterator, F: FnMut(usize) -> Result<I::Item, I::Error>> PadUsing<I, F> {
     #[inline(always)]
-    fn fold_by<C, R, K: Turn<C, I::Item, R>>(
+    fn by_turns<C, R, K: Turn<C, I::Item, R>>(
         &mut self,
         state: &mut C,
         turn: &K,

@@ -76,7 +76,7 @@ pub fn find<R: ReadBytes, W: WriteText>(
     match read_file(reader) {
         Ok(Ok(file)) => find_in(address, file.as_slice(), writer),
         Ok(Err(fault)) => Err(RunFault::Input(FindFault::File(fault))),
-        Err(e) => Err(fault_of_read(&e)),
+        Err(e) => Err(fault_of_read(e)),
     }
 }
 

@@ -57,7 +57,7 @@ pub fn run<R: ReadBytes, W: WriteText>(
     match read_file(reader) {
         Ok(Ok(file)) => report(file.as_slice(), writer),
         Ok(Err(fault)) => Err(RunFault::Input(fault)),
-        Err(e) => Err(fault_of_read(&e)),
+        Err(e) => Err(fault_of_read(e)),
     }
 }
 

@@ -96,8 +96,11 @@ impl<B: ReadByte> FallibleIterator for Rows<B> {
 
     /// Reads one row and what ends it, and nothing once it is exhausted.
     fn next(&mut self) -> Result<Option<u64>, RowFault> {
-        let Some(Ahead { left, place }) = self.ahead.take() else {
-            return Ok(None);
+        let (left, place) = match self.ahead.take() {
+            Some(Ahead { left, place }) => (left, place),
+            _ => {
+                return Ok(None);
+            }
         };
         let (row, close) = read_row(&mut self.reader, left);
         match close {

@@ -25,7 +25,7 @@ pub fn run<R: ReadBytes, W: WriteText>(
     let totals = match read_totals(reader) {
         Ok(Ok(totals)) => totals,
         Ok(Err(fault)) => return Err(RunFault::Input(fault)),
-        Err(e) => return Err(fault_of_read(&e)),
+        Err(e) => return Err(fault_of_read(e)),
     };
     match write_report(totals, writer) {
         Ok(()) => Ok(()),

@@ -19,7 +19,7 @@ pub fn drive_failing<I: FallibleIterator, P, A: Fail<P, I::Error>, C, R, K: Turn
     state: &mut C,
     turn: &K,
 ) -> Result<Option<R>, A::Failure> {
-    failed(it.fold_by(state, turn), p, adapter)
+    failed(it.by_turns(state, turn), p, adapter)
 }
 
 /// The fold from the back of such an adapter: the source's from the back, and what becomes of the failure that it met.
@@ -37,7 +37,7 @@ pub fn drive_back_failing<
     state: &mut C,
     turn: &K,
 ) -> Result<Option<R>, A::Failure> {
-    failed(it.fold_back_by(state, turn), p, adapter)
+    failed(it.back_by_turns(state, turn), p, adapter)
 }
 
 /// The fold from the front of an adapter by which a failure may become an item, nothing or another failure: the source's fold up to a failure, and the turn on that; and again, if that turn goes on.
@@ -57,7 +57,7 @@ pub fn drive_recovering<
     turn: &K,
 ) -> Result<Option<R>, E> {
     loop {
-        match it.fold_by(state, turn) {
+        match it.by_turns(state, turn) {
             Ok(value) => return Ok(value),
             Err(d) => match turn_on_passed(d, p, adapter, state, turn) {
                 ControlFlow::Continue(()) => {}
@@ -84,7 +84,7 @@ pub fn drive_back_recovering<
     turn: &K,
 ) -> Result<Option<R>, E> {
     loop {
-        match it.fold_back_by(state, turn) {
+        match it.back_by_turns(state, turn) {
             Ok(value) => return Ok(value),
             Err(d) => match turn_on_passed(d, p, adapter, state, turn) {
                 ControlFlow::Continue(()) => {}

@@ -27,7 +27,7 @@ pub fn drive_passing<
     turn: &K,
 ) -> Result<Option<R>, I::Error> {
     let mut both = Beside { c: state, p };
-    let answer = it.fold_by(&mut both, &PassTurn { adapter, turn });
+    let answer = it.by_turns(&mut both, &PassTurn { adapter, turn });
     answer_within(answer)
 }
 
@@ -48,6 +48,6 @@ pub fn drive_back_passing<
     turn: &K,
 ) -> Result<Option<R>, I::Error> {
     let mut both = Beside { c: state, p };
-    let answer = it.fold_back_by(&mut both, &PassTurn { adapter, turn });
+    let answer = it.back_by_turns(&mut both, &PassTurn { adapter, turn });
     answer_within(answer)
 }

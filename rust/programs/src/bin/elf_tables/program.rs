@@ -23,7 +23,7 @@ fn run_whole<R: ReadBytes, W: WriteText>(
             Ok(()) => Err(RunFault::Input(fault)),
             Err(_) => Err(RunFault::Write),
         },
-        Err(RunFault::Read) => Err(RunFault::Read),
+        Err(RunFault::Read(failed)) => Err(RunFault::Read(failed)),
         Err(RunFault::Memory) => Err(RunFault::Memory),
         Err(RunFault::Write) => Err(RunFault::Write),
     }

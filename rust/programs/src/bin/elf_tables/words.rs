@@ -71,8 +71,11 @@ fn refused(word: String) -> Wanted {
 
 // What the words after `--find` ask for, of which the first is the address.
 fn wanted_after_find(find: String, mut words: Args) -> Wanted {
-    let Some(word) = words.next() else {
-        return refused(find);
+    let word = match words.next() {
+        Some(word) => word,
+        _ => {
+            return refused(find);
+        }
     };
     match address_of(word.as_str()) {
         Some(address) => wanted_of_input(Some(address), words),
@@ -83,11 +86,14 @@ fn wanted_after_find(find: String, mut words: Args) -> Wanted {
 // What the program's words ask for, of which the first is its name: `--find` and a word for the address whose range is looked for, and the words after these for what is read.
 pub(crate) fn wanted_by(mut words: Args) -> Wanted {
     let _ = words.next();
-    let Some(word) = words.next() else {
-        return Wanted {
-            address: None,
-            asked: Asked::Standard,
-        };
+    let word = match words.next() {
+        Some(word) => word,
+        _ => {
+            return Wanted {
+                address: None,
+                asked: Asked::Standard,
+            };
+        }
     };
     if word.as_str() == "--find" {
         return wanted_after_find(word, words);

@@ -1,6 +1,7 @@
 // The program, over any input and any two outputs.
 
-use fallible_json::{MakeTexts, Prints, run};
+use fallible_json::Prints;
+use fallible_json::programs::{MakeTexts, run};
 use program_io::ending::ended;
 use program_io::reading::ReadBytes;
 use program_io::writing::WriteText;

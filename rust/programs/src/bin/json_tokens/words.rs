@@ -25,11 +25,14 @@ fn wanted_of_input(prints: Prints, mut words: Args) -> Wanted {
 // What the program's words ask for, of which the first is its name: `--tokens` for each token soon after it came, and the words after it for what is read.
 pub(crate) fn wanted_by(mut words: Args) -> Wanted {
     let _ = words.next();
-    let Some(word) = words.next() else {
-        return Wanted {
-            prints: Prints::Texts,
-            asked: Asked::Standard,
-        };
+    let word = match words.next() {
+        Some(word) => word,
+        _ => {
+            return Wanted {
+                prints: Prints::Texts,
+                asked: Asked::Standard,
+            };
+        }
     };
     if word.as_str() == "--tokens" {
         return wanted_of_input(Prints::Tokens, words);

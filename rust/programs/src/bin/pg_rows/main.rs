@@ -51,7 +51,7 @@ fn started(rt: HostRuntime) -> ExitCode {
     };
     let ended = match BufReader::try_new(input) {
         Ok(reader) => {
-            let mut rows = Rows::recorded(Messages::new(Buffered::new(reader)));
+            let mut rows = Rows::recorded(Messages::unbuffered(Buffered::new(reader)));
             let mut text = Vec::new();
             program(
                 &mut rows,

@@ -33,8 +33,11 @@ pub(crate) fn format_of(null: &Option<String>, csv: bool) -> Format<'_> {
 
 // What words ask for, after a word that asks for a text, where one stands before them, and after those that said what a NULL is printed as, and whether as CSV.
 fn wanted_from(asking: Option<String>, null: Option<String>, csv: bool, mut words: Args) -> Wanted {
-    let Some(word) = words.next() else {
-        return wanted_at_end(asking, null, csv);
+    let word = match words.next() {
+        Some(word) => word,
+        _ => {
+            return wanted_at_end(asking, null, csv);
+        }
     };
     if asking.is_some() {
         return wanted_from(None, Some(word), csv, words);

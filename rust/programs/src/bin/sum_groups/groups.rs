@@ -34,12 +34,15 @@ fn row_of(line: &str) -> Option<Row> {
 fn row_at(before: &mut (u64, u64), found: Option<Row>) -> Result<Option<Row>, BadRow> {
     let (lines, key) = *before;
     let place = lines.wrapping_add(1);
-    let Some(row) = found else {
-        *before = (place, key);
-        return Err(BadRow {
-            place,
-            wrong: Wrong::NoRow,
-        });
+    let row = match found {
+        Some(row) => row,
+        _ => {
+            *before = (place, key);
+            return Err(BadRow {
+                place,
+                wrong: Wrong::NoRow,
+            });
+        }
     };
     *before = (place, row.key);
     if row.key < key {

@@ -40,13 +40,13 @@ fn fault_of_bytes(bytes: &[u8]) -> Option<GroupsFault> {
 fn read_rows<R: ReadLine>(input: &mut R) -> Result<Vec<u8>, RunFault<GroupsFault>> {
     let line = match input.read_first_line() {
         Ok(line) => line,
-        Err(e) => return Err(fault_of_read(&e)),
+        Err(e) => return Err(fault_of_read(e)),
     };
     match fault_of_bytes(line.as_slice()) {
         Some(fault) => Err(RunFault::Input(fault)),
         None => match input.read_rest(line.as_slice()) {
             Ok(bytes) => Ok(bytes),
-            Err(e) => Err(fault_of_read(&e)),
+            Err(e) => Err(fault_of_read(e)),
         },
     }
 }

@@ -49,6 +49,7 @@ impl OpenFile for std::fs::File {
 }
 
 /// Calls by the names that std has.
+#[derive(Clone, Copy, Debug)]
 pub struct File;
 
 impl File {

@@ -41,7 +41,7 @@ pub fn whole<E>(folded: Result<Option<AllocError>, E>) -> Result<(), E> {
 pub trait Drive: FallibleIterator + Sized {
     /// Calls the turn on the state and each item, up to `Ok(None)`, a failure, or a turn that stops.
     #[inline(always)]
-    fn fold_by<C, R, K: Turn<C, Self::Item, R>>(
+    fn by_turns<C, R, K: Turn<C, Self::Item, R>>(
         &mut self,
         state: &mut C,
         turn: &K,
@@ -59,7 +59,7 @@ impl<I: FallibleIterator> Drive for I {}
 pub trait DriveBack: DoubleEndedFallibleIterator + Sized {
     /// Calls the turn on the state and each item from the back, up to `Ok(None)`, a failure, or a turn that stops.
     #[inline(always)]
-    fn fold_back_by<C, R, K: Turn<C, Self::Item, R>>(
+    fn back_by_turns<C, R, K: Turn<C, Self::Item, R>>(
         &mut self,
         state: &mut C,
         turn: &K,

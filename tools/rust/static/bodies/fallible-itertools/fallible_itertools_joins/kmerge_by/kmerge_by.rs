@@ -1,11 +1,15 @@
-// changed: no allocation fails
+// changed: no allocation fails; of whatever yields the sources
 // proved: a439cab6
-pub fn kmerge_by<I, F>(sources: Vec<I>, f: F) -> KMergeBy<I, F>
+pub fn kmerge_by<S, F>(sources: S, f: F) -> KMergeBy<S::Item, F>
 where
-    I: FallibleIterator,
-    F: FnMut(&I::Item, &I::Item) -> Result<bool, I::Error>,
+    S: IntoIterator,
+    S::Item: FallibleIterator,
+    F: FnMut(
+        &<S::Item as FallibleIterator>::Item,
+        &<S::Item as FallibleIterator>::Item,
+    ) -> Result<bool, <S::Item as FallibleIterator>::Error>,
 {
-    let mut rest = sources;
+    let mut rest: Vec<S::Item> = sources.into_iter().collect();
     let n = rest.len();
     let tree = tree_of_last(&mut rest, n);
     KMergeBy { tree, f }

@@ -1,29 +1,29 @@
-//! Logs in at a PostgreSQL server, sends it a query, and prints the rows as `psql -A -t` does, or with `--csv` as `psql --csv -t`, each as it comes. It tells of the notices on standard error.
+//! Logs in at a PostgreSQL server, without TLS, sends it a query, and prints what it returns, each row as it comes: as `psql -A` does, without the count of rows, or with `--csv` as `psql --csv`. It tells of the notices on standard error. The README has the words and the variables.
 //!
-//!     pg_login [--csv] [--null TEXT] QUERY
-//!
-//! `PGHOST`, `PGPORT`, `PGUSER` and `PGDATABASE` say where; a host that begins with `/` is the folder of a Unix socket, as which `/var/run/postgresql` is taken where none is said. The password is that of `PGPASSWORD` or of `~/.pgpass`. It logs in by SCRAM-SHA-256, by a password in clear text, or without one, as by `peer`. Ctrl-C asks the server to cancel the query.
-//!
-//! It ends with status 1 if the server refuses the session or a statement, 2 if a read fails, there is no connection or no password, or the words are others, 4 if a write fails, 5 at damage, 6 if the bytes are cut, 7 at COPY and another proof of identity, and 8 if the server doesn't prove that it knows the password.
+//! It ends with status 1 if the server refuses the session or a statement, 2 if a read fails, there is no connection or no password, or the words or variables are others, 4 if a write fails, 5 at damage, 6 if the bytes are cut, 7 at COPY and another proof of identity, and 8 if the server doesn't prove that it knows the password.
 //!
 //! Messages, rows, the words of SCRAM and when the server's proof is accepted are those of the crate `fallible-pg`, whose bodies are proved ones. The rest is written by hand.
 use fallible_iterator::FallibleIterator;
-use fallible_pg::program_io;
 use fallible_pg::*;
-use hash::Sha;
+use hash::{Sha, MOST_ROUNDS};
+use names::{Named, Shared};
 use place::Place;
 use program_io::ending::ended;
-use program_io::fault::RunFault;
-use program_io::reading::{Buffered, Lent, ReadByte};
+use std::cell::RefCell;
 use std::fs::File;
-use std::io::{stderr, stdout, BufReader, Read, Write};
-use std::net::TcpStream;
+use std::io::{stderr, stdin, stdout, BufReader, ErrorKind, IsTerminal, Read, Write};
+use std::net::{SocketAddr, TcpStream, ToSocketAddrs};
 use std::os::unix::net::UnixStream;
 use std::process::ExitCode;
+use std::rc::Rc;
+use std::time::Duration;
+use words::{asked_by, Asked, Wanted, USAGE};
 
 mod cancel;
 mod hash;
+mod names;
 mod place;
+mod words;
 
 /// A connection to the server.
 pub enum Socket {
@@ -35,9 +35,37 @@ impl Socket {
     fn open(place: &Place) -> std::io::Result<Socket> {
         match place.socket() {
             Some(path) => UnixStream::connect(path).map(Socket::Local),
-            None => TcpStream::connect(format!("{}:{}", place.host, place.port)).map(Socket::Net),
+            None => connected(place).map(Socket::Net),
         }
     }
+
+    /// Lets each read take so long at most.
+    fn limit(&self, time: Option<Duration>) -> std::io::Result<()> {
+        match self {
+            Socket::Net(stream) => stream.set_read_timeout(time),
+            Socket::Local(stream) => stream.set_read_timeout(time),
+        }
+    }
+}
+
+/// A connection to the first address that takes one.
+fn connected(place: &Place) -> std::io::Result<TcpStream> {
+    let addresses: Vec<SocketAddr> = match place.address {
+        Some(address) => vec![(address, place.port).into()],
+        None => (place.host.as_str(), place.port).to_socket_addrs()?.collect(),
+    };
+    let mut why = ErrorKind::NotFound.into();
+    for address in addresses {
+        let tried = match place.timeout {
+            Some(time) => TcpStream::connect_timeout(&address, time),
+            None => TcpStream::connect(address),
+        };
+        match tried {
+            Ok(stream) => return Ok(stream),
+            Err(error) => why = error,
+        }
+    }
+    Err(why)
 }
 
 impl Read for &Socket {
@@ -81,6 +109,10 @@ enum Stopped {
     Identity(u32),
     /// the server asks for a password, and none is known
     NoPassword,
+    /// the server asks for the password in clear text, over a network
+    Cleartext,
+    /// the server asks for so many rounds of the hash
+    Rounds(u64),
     /// the server offers no SCRAM-SHA-256
     NoScram,
     /// what the server asks by SCRAM is not what it may ask
@@ -95,7 +127,7 @@ fn stopped_by(fault: PgFault) -> Stopped {
     Stopped::Run(match fault {
         PgFault::Server(message) => RunFault::Input(PgInput::Server(message)),
         PgFault::Damaged(place, damage) => RunFault::Input(PgInput::Damaged(place, damage)),
-        PgFault::Read => RunFault::Read,
+        PgFault::Read(failed) => RunFault::Read(failed),
         PgFault::Memory => RunFault::Memory,
     })
 }
@@ -109,6 +141,30 @@ fn send(writer: &mut impl Write, message: Result<Vec<u8>, Unsent>) -> Result<(),
     writer
         .write_all(&message)
         .or(Err(Stopped::Run(RunFault::Write)))
+}
+
+/// What asks for a session, with what the variables tell it.
+fn startup(place: &Place) -> Result<Vec<u8>, Unsent> {
+    let mut message = startup_message(&place.user, &place.database)?;
+    // The parameters end with a zero.
+    message.pop();
+    for (name, value) in &place.parameters {
+        for text in [name, value.as_str()] {
+            message.extend_from_slice(text.as_bytes());
+            message.push(0);
+        }
+    }
+    message.push(0);
+    let length = u32::try_from(message.len()).or(Err(Unsent::Long))?;
+    message[..4].copy_from_slice(&length.to_be_bytes());
+    Ok(message)
+}
+
+/// Who proves by a password who they are.
+struct Identity<'a> {
+    password: Option<&'a str>,
+    /// Whether the password may be sent in clear text.
+    cleartext: bool,
 }
 
 /// 18 bytes that no one can guess, as text without a comma.
@@ -136,13 +192,17 @@ fn answer(
     message: &Message,
     request: Request,
     login: Login,
-    password: Option<&str>,
+    identity: &Identity,
 ) -> Result<Login, Stopped> {
+    let password = identity.password;
     match (request, login) {
         // A server that was to prove itself, and doesn't, is none that knows the password.
         (Request::Nothing, Login::Begun(_) | Login::Answered(_)) => Err(Stopped::Unproved),
         (Request::Nothing, _) => Ok(Login::Done),
         (Request::Password, Login::Before) => {
+            if !identity.cleartext {
+                return Err(Stopped::Cleartext);
+            }
             let password = password.ok_or(Stopped::NoPassword)?;
             send(writer, password_message(password))?;
             Ok(Login::Before)
@@ -158,17 +218,21 @@ fn answer(
             if password.is_none() {
                 return Err(Stopped::NoPassword);
             }
-            let own = nonce().or(Err(Stopped::Run(RunFault::Read)))?;
+            let own = nonce().map_err(|error| Stopped::Run(RunFault::Read(error.into())))?;
             send(writer, scram_first_message(own.as_bytes()))?;
             Ok(Login::Begun(own))
         }
         (Request::Other(11), Login::Begun(own)) => {
             let password = password.ok_or(Stopped::NoPassword)?;
             let asked = request_data(message);
-            let Ok(Some(answer)) = answer_of(&Sha, password.as_bytes(), own.as_bytes(), asked)
+            let sha = Sha::default();
+            let Ok(Some(answer)) = answer_of(&sha, password.as_bytes(), own.as_bytes(), asked)
             else {
                 return Err(Stopped::Question);
             };
+            if let Some(rounds) = sha.too_many.get() {
+                return Err(Stopped::Rounds(rounds));
+            }
             send(writer, answer.message())?;
             Ok(Login::Answered(answer))
         }
@@ -189,11 +253,11 @@ fn start(
     reader: impl ReadByte,
     writer: &mut impl Write,
     place: &Place,
-    password: Option<&str>,
+    identity: &Identity,
 ) -> Result<Option<CancelKey>, Stopped> {
-    send(writer, startup_message(&place.user, &place.database))?;
+    send(writer, startup(place))?;
     let (mut read, mut login, mut key) = (0, Login::Before, None);
-    let mut messages = Messages::new(reader);
+    let mut messages = Messages::unbuffered(reader);
     while let Some(message) = messages.next().map_err(stopped_by)? {
         let at = read;
         read += message.bytes().len() as u64;
@@ -201,7 +265,7 @@ fn start(
         match (message.tag(), request_of(&message)) {
             (b'Z', _) if is_done => return Ok(key),
             (_, Some(request)) => {
-                login = answer(writer, &message, request, login, password)?;
+                login = answer(writer, &message, request, login, identity)?;
             }
             (b'K', _) if is_done => key = cancel_key_of(&message),
             // A parameter, a notice.
@@ -217,32 +281,57 @@ fn start(
 fn run(
     socket: &Socket,
     place: Place,
+    wanted: &Wanted,
     query: &str,
-    format: Format<'_>,
     errors: &mut impl Write,
 ) -> Result<(), Stopped> {
+    let read_failed = |error: std::io::Error| Stopped::Run(RunFault::Read(error.into()));
     let mut reader = Buffered::new(BufReader::new(socket));
     let mut writer = socket;
     let password = place.password();
+    let identity = Identity {
+        password: password.as_deref(),
+        cleartext: wanted.cleartext || place.socket().is_some(),
+    };
     let lent = Lent {
         reader: &mut reader,
     };
-    if let Some(key) = start(lent, &mut writer, &place, password.as_deref())? {
+    socket.limit(place.timeout).map_err(read_failed)?;
+    let key = start(lent, &mut writer, &place, &identity)?;
+    socket.limit(None).map_err(read_failed)?;
+    if let Some(key) = key {
         // Without it Ctrl-C ends the program.
         let _ = cancel::cancels(place, key);
     }
     send(&mut writer, query_message(query))?;
-    let mut rows = Rows::new(Messages::new(reader));
-    let printed = print_rows(
-        &mut rows,
-        format,
-        &mut Vec::new(),
-        &mut stdout().lock(),
-        errors,
-    );
+    let messages = Messages::unbuffered(reader);
+    let printed = print(messages, wanted, errors);
     // The server ends the session too where the connection is closed.
     let _ = send(&mut writer, terminate_message());
     printed.map_err(Stopped::Run)
+}
+
+/// Prints the rows that messages bring.
+fn print<R: ReadMessage>(
+    messages: Messages<R>,
+    wanted: &Wanted,
+    errors: &mut impl Write,
+) -> Result<(), RunFault<PgInput>> {
+    let format = Format {
+        null: wanted.null.as_bytes(),
+        csv: wanted.csv,
+    };
+    let mut output = Shared(Rc::new(RefCell::new(stdout().lock())));
+    if wanted.rows_only {
+        let mut rows = Rows::new(messages);
+        return print_rows(&mut rows, format, &mut Vec::new(), &mut output, errors);
+    }
+    let named = Named::new(messages, format, output.clone());
+    let stopped = named.stopped();
+    let mut rows = Rows::new(Messages::unbuffered(named));
+    let printed = print_rows(&mut rows, format, &mut Vec::new(), &mut output, errors);
+    let why = stopped.borrow_mut().take();
+    why.map_or(printed, Err)
 }
 
 /// Says why no more rows were printed. The status.
@@ -262,6 +351,14 @@ fn told(stopped: Result<(), Stopped>, errors: &mut impl Write) -> u8 {
             2,
             "the server asks for a password, and neither PGPASSWORD nor ~/.pgpass has one".into(),
         ),
+        Err(Stopped::Cleartext) => (
+            2,
+            "the server asks for the password in clear text, which is sent over a Unix socket alone, or with --cleartext-password".into(),
+        ),
+        Err(Stopped::Rounds(rounds)) => (
+            8,
+            format!("the server asks for {rounds} rounds of the hash, and {MOST_ROUNDS} are made at most"),
+        ),
         Err(Stopped::NoScram) => (7, "the server offers no SCRAM-SHA-256".into()),
         Err(Stopped::Question) => (8, "the server asks by SCRAM what it may not ask".into()),
         Err(Stopped::Unproved) => (
@@ -274,42 +371,59 @@ fn told(stopped: Result<(), Stopped>, errors: &mut impl Write) -> u8 {
     status
 }
 
-/// The form that the words ask for, and the query.
-fn words() -> Option<(String, bool, String)> {
-    let (mut null, mut csv, mut query) = (String::new(), false, None);
-    let mut words = std::env::args().skip(1);
-    while let Some(word) = words.next() {
-        match word.as_str() {
-            "--csv" => csv = true,
-            "--null" => null = words.next()?,
-            _ if query.is_none() => query = Some(word),
-            _ => return None,
+/// Tells of a refusal. Status 2.
+fn refused(why: impl std::fmt::Display) -> ExitCode {
+    // Where it can't be told the status tells it.
+    let _ = writeln!(stderr(), "{why}");
+    ExitCode::from(2)
+}
+
+/// Prints a text. The status: 0, or 4 where that fails.
+fn printed(text: &str) -> ExitCode {
+    match writeln!(stdout(), "{text}").and_then(|()| stdout().flush()) {
+        Ok(()) => ExitCode::SUCCESS,
+        Err(_) => {
+            let _ = writeln!(stderr(), "write failed");
+            ExitCode::from(4)
         }
     }
-    Some((null, csv, query?))
+}
+
+/// The statements of standard input.
+fn statements() -> Result<String, String> {
+    if stdin().is_terminal() {
+        return Err(USAGE.into());
+    }
+    let mut bytes = Vec::new();
+    stdin()
+        .read_to_end(&mut bytes)
+        .map_err(|error| format!("standard input: {error}"))?;
+    if bytes.contains(&0) {
+        return Err("standard input has a byte 0".into());
+    }
+    String::from_utf8(bytes).map_err(|_| "standard input is no UTF-8".into())
 }
 
 fn main() -> ExitCode {
-    let Some((null, csv, query)) = words() else {
-        eprintln!("usage: pg_login [--csv] [--null TEXT] QUERY");
-        return ExitCode::from(2);
+    let wanted = match asked_by(std::env::args_os().skip(1)) {
+        Ok(Asked::Help) => return printed(USAGE),
+        Ok(Asked::Version) => return printed(concat!("pg_login ", env!("CARGO_PKG_VERSION"))),
+        Ok(Asked::Rows(wanted)) => wanted,
+        Err(why) => return refused(format!("{why}\n{USAGE}")),
     };
-    let Some(place) = Place::of_variables() else {
-        eprintln!("PGUSER isn't set, and who runs the program isn't known");
-        return ExitCode::from(2);
+    let place = match Place::of_variables(std::env::vars_os()) {
+        Ok(place) => place,
+        Err(why) => return refused(why),
+    };
+    let query = match wanted.query.clone().map_or_else(statements, Ok) {
+        Ok(query) => query,
+        Err(why) => return refused(why),
     };
     let socket = match Socket::open(&place) {
         Ok(socket) => socket,
-        Err(error) => {
-            eprintln!("{}, port {}: {error}", place.host, place.port);
-            return ExitCode::from(2);
-        }
-    };
-    let format = Format {
-        null: null.as_bytes(),
-        csv,
+        Err(error) => return refused(format!("{}, port {}: {error}", place.host, place.port)),
     };
     let mut errors = stderr();
-    let stopped = run(&socket, place, &query, format, &mut errors);
+    let stopped = run(&socket, place, &wanted, &query, &mut errors);
     ExitCode::from(told(stopped, &mut errors))
 }

@@ -2,9 +2,17 @@
 use fallible_pg::Hash;
 use hmac::{Hmac, Mac};
 use sha2::{Digest, Sha256};
+use std::cell::Cell;
+
+/// How many rounds of the hash are made at most. A server of PostgreSQL asks for 4096, if it isn't told otherwise.
+pub const MOST_ROUNDS: u64 = 1_000_000;
 
 /// SHA-256 of the crate `sha2`.
-pub struct Sha;
+#[derive(Debug, Default)]
+pub struct Sha {
+    /// The rounds that a server asked for, where they are too many. None is made then.
+    pub too_many: Cell<Option<u64>>,
+}
 
 impl Hash for Sha {
     fn hash(&self, bytes: &[u8]) -> [u8; 32] {
@@ -19,9 +27,12 @@ impl Hash for Sha {
 
     fn stretch(&self, password: &[u8], salt: &[u8], rounds: u64) -> [u8; 32] {
         let mut stretched = [0; 32];
-        // A server asks for 2 ^ 31 - 1 rounds at most.
-        let rounds = u32::try_from(rounds).unwrap_or(u32::MAX);
-        pbkdf2::pbkdf2::<Hmac<Sha256>>(password, salt, rounds, &mut stretched);
+        match u32::try_from(rounds) {
+            Ok(few) if rounds <= MOST_ROUNDS => {
+                pbkdf2::pbkdf2::<Hmac<Sha256>>(password, salt, few, &mut stretched);
+            }
+            _ => self.too_many.set(Some(rounds)),
+        }
         stretched
     }
 }
