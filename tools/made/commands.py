@@ -22,7 +22,7 @@ def release(top):
     for step, command, time in STEP.findall(path.read_text(encoding="utf-8")) if path.is_file() else []:
         text = (top / command.split()[0]).read_text(encoding="utf-8")
         found = {name.rstrip(".") for name, below in USED.findall(text) if (top / f"{name.rstrip('.')}{below}").exists()}
-        used = sorted(found - {command.split()[0]})
+        used = sorted(found - {command.split()[0], "tools/usage.sh"})
         lines.append(f"| {step} | `{command}` | {purpose(text)} | {', '.join(f'`{name}`' for name in used)} | {time} |")
     return lines
 
