@@ -80,7 +80,7 @@ WORD += [(r"^#\[derive\(Clone, Copy(?:, PartialEq, Eq)?(?=\)\]\npub\(crate\) enu
          (r"^use fallible_json::\{MakeTexts, Prints, run\};", "use fallible_json::Prints;\nuse fallible_json::programs::{MakeTexts, run};")]
 # What stands in a crate by hand: its modules, and what its root shows.
 OWN = {
-    "program-io": 'mod errors;\nmod failed;\npub mod memory;\n#[cfg(feature = "std")]\npub mod runtime;\n',
+    "program-io": 'mod errors;\npub mod failed;\npub mod memory;\n#[cfg(feature = "std")]\npub mod runtime;\n',
     "fallible-json": "mod calls;\nmod errors;\n",
     "fallible-pg": '#[cfg(feature = "std")]\nmod buffering;\nmod errors;\n',
 }
@@ -93,7 +93,7 @@ pub use calls::run;
 pub use program_io::fault::RunFault;
 pub use program_io::memory::{AllocError, Fault};
 #[cfg(feature = "std")]
-pub use program_io::reading::ReadFailed;
+pub use program_io::failed::{ReadFailed, WriteFailed};
 
 // What the program `json_tokens` goes by.
 #[cfg(feature = "std")]
@@ -104,6 +104,8 @@ pub mod programs {
 }
 """,
     "fallible-pg": """
+#[cfg(feature = "std")]
+pub use program_io::failed::WriteFailed;
 #[cfg(feature = "std")]
 pub use program_io::fault::RunFault;
 pub use program_io::memory::AllocError;
@@ -317,4 +319,4 @@ def table(same):
         for how, lines in compare.listed(once, " of `%s`" % crate).items():
             others.setdefault(how, []).extend(lines)
     return "\n\n".join(["Of the crates of programs these bodies are word for word the proved ones, but for allocators, names of calls, what a failed "
-                        "read keeps, and `let .. else`, which is a `match`: %s. These are not." % alike, *compare.parts(others)])
+                        "read or write keeps, and `let .. else`, which is a `match`: %s. These are not." % alike, *compare.parts(others)])

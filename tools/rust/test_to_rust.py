@@ -199,7 +199,7 @@ class Refusals(unittest.TestCase):
     def test_each_public_type_can_be_shown_and_most_cloned(self):
         """`Debug` of each struct and enum that a root shows, and `Clone` of all but what reads, or has an error of std."""
         self.assertEqual(self.run_it()[0], 0)
-        uncloned = {"Answer", "Buffered", "Lent", "Messages", "PgFault", "PgInput", "ReadFailed", "Rows", "RunFault", "Broken",
+        uncloned = {"Answer", "Buffered", "Lent", "Messages", "PgFault", "PgInput", "ReadFailed", "WriteFailed", "Rows", "RunFault", "Broken",
                     # Closures that are kept need not be cloned.
                     "FromFn"}
         shown = set()
@@ -251,8 +251,8 @@ class Programs(unittest.TestCase):
             "    match it {\n        Ok(_) => Ok(x),\n        Err(_) => Err(Broken::Read),\n    }\n}\n"))
         failing.to_rust(text, "crate")
         older.to_rust(text)
-        for line in ("#[derive(Debug)]\npub enum Broken", "Read(crate::reading::ReadFailed),", "Err(failed) => Err(Broken::Read(failed)),",
-                     "let x = match two(it) { Some(x) => x, _ => {", "return Err(Broken::Read(crate::reading::ReadFailed::new()));"):
+        for line in ("#[derive(Debug)]\npub enum Broken", "Read(crate::failed::ReadFailed),", "Err(failed) => Err(Broken::Read(failed)),",
+                     "let x = match two(it) { Some(x) => x, _ => {", "return Err(Broken::Read(crate::failed::ReadFailed::new()));"):
             self.assertIn(line, text.s)
 
     def test_what_needs_std_stands_behind_its_feature_with_all_that_names_it(self):

@@ -48,10 +48,10 @@ pub use wanted::Wanted;
 pub use calls::run;
 pub use calls::{Texts, Unminified, json_of, minify};
 #[cfg(feature = "std")]
+pub use program_io::failed::{ReadFailed, WriteFailed};
+#[cfg(feature = "std")]
 pub use program_io::fault::RunFault;
 pub use program_io::memory::{AllocError, Fault};
-#[cfg(feature = "std")]
-pub use program_io::reading::ReadFailed;
 
 // What the program `json_tokens` goes by.
 #[cfg(feature = "std")]

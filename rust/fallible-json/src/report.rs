@@ -65,7 +65,7 @@ fn end_with<W: WriteText>(
     };
     match write_first(texts, count, writer) {
         Ok(()) => fault,
-        Err(_) => RunFault::Write,
+        Err(error) => RunFault::Write(error.into()),
     }
 }
 
@@ -134,7 +134,7 @@ fn print_part<M: MakeTexts, W: WriteText>(
     match take_part(maker, texts, bytes, checked) {
         Ok(part) => match write_ended(texts, prints, writer) {
             Ok(()) => Ok(part),
-            Err(_) => Err(RunFault::Write),
+            Err(error) => Err(RunFault::Write(error.into())),
         },
         Err(fault) => Err(tell(fault, texts, prints, writer)),
     }
@@ -153,7 +153,7 @@ fn print_last<M: MakeTexts, W: WriteText>(
     match take_last(maker, texts, bytes, checked) {
         Ok(()) => match write_first(texts, texts.whole, writer) {
             Ok(()) => Ok(()),
-            Err(_) => Err(RunFault::Write),
+            Err(error) => Err(RunFault::Write(error.into())),
         },
         Err(fault) => Err(tell(fault, texts, prints, writer)),
     }
@@ -228,7 +228,7 @@ pub fn run<M: MakeTexts, R: ReadBytes, W: WriteText>(
         read += count;
     }
     Err(end_with(
-        RunFault::Read(program_io::reading::ReadFailed::new()),
+        RunFault::Read(program_io::failed::ReadFailed::new()),
         &texts,
         prints,
         writer,

@@ -47,7 +47,7 @@ fn send(writer: &mut impl Write, message: Result<Vec<u8>, Unsent>) -> Result<(),
         Unsent::Memory => Stopped::Run(RunFault::Memory),
     })?;
     let sent = writer.write_all(&message).and_then(|()| writer.flush());
-    sent.or(Err(Stopped::Run(RunFault::Write)))
+    sent.map_err(|error| Stopped::Run(RunFault::Write(error.into())))
 }
 
 /// What a fault of messages is for the run.
@@ -139,7 +139,7 @@ fn status_of(fault: &RunFault<PgInput>) -> u8 {
         RunFault::Input(PgInput::Damaged(..)) => 5,
         RunFault::Read(_) => 2,
         RunFault::Memory => 3,
-        RunFault::Write => 4,
+        RunFault::Write(_) => 4,
     }
 }
 

@@ -25,7 +25,7 @@ pub enum PgFault {
     /// What it sent is damaged: the place of the message, in bytes from 0, and how.
     Damaged(u64, Damage),
     /// A read failed.
-    Read(program_io::reading::ReadFailed),
+    Read(program_io::failed::ReadFailed),
     /// An allocation failed.
     Memory,
 }

@@ -63,6 +63,8 @@ pub use text::HoldText;
 pub use text::write_row;
 
 #[cfg(feature = "std")]
+pub use program_io::failed::WriteFailed;
+#[cfg(feature = "std")]
 pub use program_io::fault::RunFault;
 pub use program_io::memory::AllocError;
 #[cfg(feature = "std")]

@@ -46,7 +46,7 @@ impl<R: ReadMessage> FallibleIterator for Messages<R> {
             }
         };
         if place > MAX_PLACE {
-            return Err(PgFault::Read(program_io::reading::ReadFailed::new()));
+            return Err(PgFault::Read(program_io::failed::ReadFailed::new()));
         }
         match self.reader.read_message() {
             Ok(Some(message)) => {

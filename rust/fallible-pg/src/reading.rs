@@ -13,7 +13,7 @@ pub enum Broken {
     /// What came is damaged.
     Damaged(Damage),
     /// A read failed.
-    Read(program_io::reading::ReadFailed),
+    Read(program_io::failed::ReadFailed),
     /// An allocation failed.
     Memory,
 }

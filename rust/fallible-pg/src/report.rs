@@ -39,12 +39,12 @@ fn put_reply<T: HoldText, W: WriteText, E: WriteText>(
             }
             match output.write_bytes(text.held()) {
                 Ok(()) => Ok(()),
-                Err(_) => Err(RunFault::Write),
+                Err(error) => Err(RunFault::Write(error.into())),
             }
         }
         Reply::Notice(notice) => match write_notice(notice, errors) {
             Ok(()) => Ok(()),
-            Err(_) => Err(RunFault::Write),
+            Err(error) => Err(RunFault::Write(error.into())),
         },
     }
 }

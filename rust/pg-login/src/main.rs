@@ -142,7 +142,7 @@ fn send(writer: &mut impl Write, message: Result<Vec<u8>, Unsent>) -> Result<(),
     })?;
     writer
         .write_all(&message)
-        .or(Err(Stopped::Run(RunFault::Write)))
+        .map_err(|error| Stopped::Run(RunFault::Write(error.into())))
 }
 
 /// What asks for a session, with what the variables tell it.

@@ -106,7 +106,7 @@ impl<R: ReadMessage, W: Write> Named<'_, R, W> {
         }
         written
             .and_then(|()| self.output.clone().write_all(&line))
-            .map_err(|_| self.stop(RunFault::Write))
+            .map_err(|error| self.stop(RunFault::Write(error.into())))
     }
 }
 

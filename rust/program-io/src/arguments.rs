@@ -243,7 +243,7 @@ fn help<W: WriteText, E: WriteText>(usage: &str, output: &mut W, errors: &mut E)
     if output.write_text(format_args!("{usage}\n")).is_ok() {
         return 0;
     }
-    told(&RunFault::Write, errors)
+    told(&RunFault::Write(crate::failed::WriteFailed::new()), errors)
 }
 
 // Why the system's words are not known, by the error that it has of them.

@@ -37,11 +37,11 @@ pub enum RunFault<F> {
     /// The input has a fault.
     Input(F),
     /// A read failed.
-    Read(crate::reading::ReadFailed),
+    Read(crate::failed::ReadFailed),
     /// An allocation failed, or a read for want of memory.
     Memory,
     /// The report could not be written.
-    Write,
+    Write(crate::failed::WriteFailed),
 }
 
 impl<F> From<AllocError> for RunFault<F> {
@@ -68,7 +68,7 @@ impl<F: InputFault> RunFault<F> {
             RunFault::Input(fault) => fault.status(),
             RunFault::Read(_) => 2,
             RunFault::Memory => 3,
-            RunFault::Write => 4,
+            RunFault::Write(_) => 4,
         }
     }
 
@@ -76,7 +76,7 @@ impl<F: InputFault> RunFault<F> {
     fn write_front<W: WriteText>(&self, name: Option<&str>, errors: &mut W) -> io::Result<()> {
         match self {
             RunFault::Input(_) | RunFault::Read(_) => write_name(name, errors),
-            RunFault::Memory | RunFault::Write => Ok(()),
+            RunFault::Memory | RunFault::Write(_) => Ok(()),
         }
     }
 
@@ -86,7 +86,7 @@ impl<F: InputFault> RunFault<F> {
             RunFault::Input(fault) => fault.write_line(errors),
             RunFault::Read(_) => errors.write_text("read failed\n"),
             RunFault::Memory => errors.write_text("no memory\n"),
-            RunFault::Write => errors.write_text("write failed\n"),
+            RunFault::Write(_) => errors.write_text("write failed\n"),
         }
     }
 

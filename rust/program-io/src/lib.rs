@@ -20,7 +20,7 @@ extern crate std;
 pub mod arguments;
 pub mod ending;
 mod errors;
-mod failed;
+pub mod failed;
 pub mod fault;
 pub mod memory;
 pub mod numbers;

@@ -230,7 +230,7 @@ pub enum Unread {
     /// The reader's end was met.
     End,
     /// A read failed.
-    Failed(crate::reading::ReadFailed),
+    Failed(crate::failed::ReadFailed),
     /// An allocation failed.
     Memory,
 }

@@ -26,10 +26,10 @@ pub fn run<R: ReadByte, W: WriteText>(
     let count = match counting::count_above(reader) {
         Ok(count) => count,
         Err(RowFault::Row(place)) => return Err(RunFault::Input(BadRow { place })),
-        Err(RowFault::Read) => return Err(RunFault::Read(program_io::reading::ReadFailed::new())),
+        Err(RowFault::Read) => return Err(RunFault::Read(program_io::failed::ReadFailed::new())),
     };
     match writer.write_text(format_args!("{count}\n")) {
         Ok(()) => Ok(()),
-        Err(_) => Err(RunFault::Write),
+        Err(error) => Err(RunFault::Write(error.into())),
     }
 }

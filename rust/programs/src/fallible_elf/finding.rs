@@ -59,7 +59,7 @@ fn find_in<W: WriteText>(
     match range_at(file, address) {
         Ok(Some(range)) => match write_range(&range, writer) {
             Ok(()) => Ok(()),
-            Err(_) => Err(RunFault::Write),
+            Err(error) => Err(RunFault::Write(error.into())),
         },
         Ok(None) => Err(RunFault::Input(FindFault::NoRange(address))),
         Err(Fault::Source(fault)) => Err(RunFault::Input(FindFault::File(fault))),

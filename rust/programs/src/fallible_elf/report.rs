@@ -37,7 +37,7 @@ pub fn report<W: WriteText>(file: &[u8], writer: &mut W) -> Result<(), RunFault<
         Err(fault) => return Err(run_fault(fault)),
     };
     if write_tables(file, tables, writer).is_err() {
-        return Err(RunFault::Write);
+        return Err(RunFault::Write(program_io::failed::WriteFailed::new()));
     }
     match tables.found {
         Ok(_) => Ok(()),

@@ -29,7 +29,7 @@ pub fn run<R: ReadBytes, W: WriteText>(
     };
     match write_report(totals, writer) {
         Ok(()) => Ok(()),
-        Err(_) => Err(RunFault::Write),
+        Err(error) => Err(RunFault::Write(error.into())),
     }
 }
 

@@ -17,15 +17,15 @@ fn run_whole<R: ReadBytes, W: WriteText>(
     match run(input, output) {
         Ok(()) => match output.hand_on() {
             Ok(()) => Ok(()),
-            Err(_) => Err(RunFault::Write),
+            Err(error) => Err(RunFault::Write(error.into())),
         },
         Err(RunFault::Input(fault)) => match output.hand_on() {
             Ok(()) => Err(RunFault::Input(fault)),
-            Err(_) => Err(RunFault::Write),
+            Err(error) => Err(RunFault::Write(error.into())),
         },
         Err(RunFault::Read(failed)) => Err(RunFault::Read(failed)),
         Err(RunFault::Memory) => Err(RunFault::Memory),
-        Err(RunFault::Write) => Err(RunFault::Write),
+        Err(RunFault::Write(failed)) => Err(RunFault::Write(failed)),
     }
 }
 

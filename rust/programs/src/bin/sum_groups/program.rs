@@ -61,7 +61,7 @@ fn run<M: MakeReport, R: ReadLine, W: WriteText>(
     let report = report_of_bytes(maker, bytes.as_slice())?;
     match output.write_bytes(report.as_slice()) {
         Ok(()) => Ok(()),
-        Err(_) => Err(RunFault::Write),
+        Err(error) => Err(RunFault::Write(error.into())),
     }
 }
 

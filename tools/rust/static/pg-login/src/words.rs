@@ -5,8 +5,9 @@ pub const USAGE: &str = "usage: pg_login [--csv] [--null TEXT] [-t] [--cleartext
        pg_login -h | --help
        pg_login --version
 Logs in at a PostgreSQL server, without TLS, and prints what QUERY returns as
-psql -A does, or with --csv as psql --csv, each row as it comes. Without a QUERY,
-or where it is -, the statements are read from standard input, and sent as one.
+psql -q -A does, without the count of rows, or with --csv as psql -q --csv, each
+row as it comes. Without a QUERY, or where it is -, the statements are read from
+standard input, and sent as one.
   --null TEXT           what is printed for a NULL
   -t, --tuples-only     without the names of the columns
   --cleartext-password  sends the password in clear also over the network

@@ -29,7 +29,7 @@ impl<F: fmt::Display> fmt::Display for RunFault<F> {
             RunFault::Input(fault) => fault.fmt(f),
             RunFault::Read(failed) => failed.fmt(f),
             RunFault::Memory => f.write_str("no memory"),
-            RunFault::Write => f.write_str("write failed"),
+            RunFault::Write(failed) => failed.fmt(f),
         }
     }
 }
@@ -63,7 +63,8 @@ mod sources {
             match self {
                 RunFault::Input(fault) => fault.source(),
                 RunFault::Read(failed) => failed.source(),
-                RunFault::Memory | RunFault::Write => None,
+                RunFault::Write(failed) => failed.source(),
+                RunFault::Memory => None,
             }
         }
     }

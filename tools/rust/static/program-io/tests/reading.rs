@@ -88,8 +88,11 @@ fn faults_go_on_by_the_question_mark() {
     }
     let inner = RunFault::Input(Fault::Source(io::Error::new(ErrorKind::Other, "a fern")));
     assert_eq!(gone_on(inner).unwrap_err().to_string(), "a fern");
-    let written: RunFault<Fault<io::Error>> = RunFault::Write;
-    assert_eq!(gone_on(written).unwrap_err().to_string(), "write failed");
+    let full = io::Error::new(ErrorKind::Other, "a full fern");
+    let unwritten: RunFault<Fault<io::Error>> = RunFault::Write(full.into());
+    let found = gone_on(unwritten).unwrap_err();
+    assert_eq!(found.to_string(), "write failed");
+    assert_eq!(found.source().unwrap().to_string(), "a full fern");
     assert_eq!(gone_on(Unread::End).unwrap_err().to_string(), "the input ended");
     fn shown(_: impl Debug) {}
     shown(Buffered::new(BufReader::new(wavering(b"", 0))));
