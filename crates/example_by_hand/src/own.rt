@@ -10,13 +10,16 @@ ghost use Rattle.fallible_iterator.specs.Lists.{Lists, CollectedAs, chained, cou
 ghost use Rattle.fallible_iterator.specs.Own.{giving};
 ghost use Rattle.fallible_iterator.specs.Showing.{listing};
 ghost use Rattle.fallible_iterator.specs.ShowingEnds.{listing_ends};
+ghost use Rattle.fallible_iterator.specs.Sound.{BoundsBelow};
 ghost use Rattle.example_by_hand.specs.Between.{numbers_between, shows_between};
 ghost use Rattle.example_by_hand.specs.Down.{counting_from, counts_down, down_from};
 ghost use Rattle.example_by_hand.specs.Rounds.{shows_rounds};
 
+use fallible_iterator::laws::hints::law_hints;
 use fallible_iterator::laws::{law_flat_map_finite, law_flatten_finite};
 use fallible_iterator::{
-    DoubleEndedFallibleIterator, FallibleIterator, Fault, IntoFallibleIterator, convert,
+    Chain, DoubleEndedFallibleIterator, FallibleIterator, Fault, IntoFallibleIterator, Once, Take,
+    convert, once,
 };
 use std::alloc::{AllocError, Global};
 
@@ -65,6 +68,22 @@ pub fn even_below(n: u32) -> Result<usize, u8>
     ensures { result ≡ counted (filtered (λ x. Ok (eqb (x % 2) 0)) (down_from n)) }
 {
     Countdown::new(n).filter(|x| Ok(*x % 2 == 0)).count()
+}
+
+/// The first `size` of a countdown's numbers and one after them, and how many a vector for these should have room for: no more than come, if they end.
+pub fn with_room(
+    numbers: Countdown,
+    last: u32,
+    size: usize,
+) -> (Take<Chain<Countdown, Once<u32, u8>>>, usize)
+    ensures { BoundsBelow
+        ⟦<Take<Chain<Countdown, Once<u32, u8>>> as FallibleIterator>⟧.contract.steps result.0
+        result.1 }
+{
+    law_hints::<Take<Chain<Countdown, Once<u32, u8>>>>();
+    let taken = numbers.chain(once(last)).take(size);
+    let (least, _) = taken.size_hint();
+    (taken, least)
 }
 
 /// How many numbers a countdown from n yields, which std counts after a look ahead.
