@@ -47,7 +47,9 @@ where
         (0, None)
     }
 
-    ghost lawful = { lawful_parts (record { make = λ p. record { it = p }; made = λ s. refl; has = λ p. refl }) (lawful_gathering MakesPair I.lawful) };
+    ghost lawful = { lawful_parts
+        (record { make = λ p. record { it = p }; made = λ s. refl; has = λ p. refl })
+        (lawful_gathering MakesPair I.lawful) };
 }
 
 impl<I: FallibleIterator> Pairs<I>

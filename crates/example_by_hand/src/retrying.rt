@@ -43,7 +43,9 @@ where
         (0, None)
     }
 
-    ghost lawful = { lawful_parts (record { make = λ p. record { it = p.0; retries = p.1 }; made = λ s. refl; has = λ p. refl }) (lawful_gathering_by MakesRetried I.lawful) };
+    ghost lawful = { lawful_parts
+        (record { make = λ p. record { it = p.0; retries = p.1 }; made = λ s. refl; has = λ p. refl })
+        (lawful_gathering_by MakesRetried I.lawful) };
 }
 
 impl<I: FallibleIterator> Retried<I>

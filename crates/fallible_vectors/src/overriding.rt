@@ -1,6 +1,7 @@
 // A fallible iterator of a user's own that writes its own fold.
-ghost use Rattle.fallible_iterator.specs.Contract.{seen_as};
-ghost use Rattle.fallible_iterator.specs.Laws.Contract.{lawful_seen};
+ghost use Rattle.std.proofs.Common.{refl};
+ghost use Rattle.fallible_iterator.specs.Contract.{around};
+ghost use Rattle.fallible_iterator.specs.Laws.Contract.{lawful_around};
 
 use fallible_iterator::{FallibleIterator, Turn};
 use std::cell::Cell;
@@ -18,7 +19,7 @@ impl<'a, I: FallibleIterator<Item = u32, Error = u32>> FallibleIterator for Watc
 
     type Error = u32;
 
-    ghost contract = { seen_as (λ w. w.it) I.contract };
+    ghost contract = { around (λ w. w.it) I.contract };
 
     fn next(&mut self) -> Result<Option<u32>, u32> {
         self.it.next()
@@ -37,7 +38,8 @@ impl<'a, I: FallibleIterator<Item = u32, Error = u32>> FallibleIterator for Watc
         self.it.drive(state, turn)
     }
 
-    ghost lawful = { lawful_seen (λ w. w.it) I.lawful };
+    ghost lawful = { lawful_around
+        (record { put = λ w it. record w { it = it }; has = λ w it. refl }) I.lawful };
 }
 
 // The sum, which stops with a power of two after a sum of 1.

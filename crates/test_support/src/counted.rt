@@ -1,9 +1,10 @@
 //! An iterator that counts the calls which it gets.
 ghost use Rattle.std.specs.Prelude.{◌≡◌, Result, Option};
-ghost use Rattle.fallible_iterator.specs.Contract.{seen_as};
-ghost use Rattle.fallible_iterator.specs.Ends.{ends_seen_as};
-ghost use Rattle.fallible_iterator.specs.Laws.Contract.{lawful_seen};
-ghost use Rattle.fallible_iterator.specs.Laws.Ends.{lawful_ends_seen};
+ghost use Rattle.std.proofs.Common.{refl};
+ghost use Rattle.fallible_iterator.specs.Contract.{around};
+ghost use Rattle.fallible_iterator.specs.Ends.{ends_around};
+ghost use Rattle.fallible_iterator.specs.Laws.Contract.{lawful_around};
+ghost use Rattle.fallible_iterator.specs.Laws.Ends.{lawful_ends_around};
 
 use crate::calls::Calls;
 use fallible_iterator::{DoubleEndedFallibleIterator, FallibleIterator, Goal, Turn};
@@ -110,7 +111,7 @@ impl<'a, I: FallibleIterator> FallibleIterator for Counted<'a, I> {
 
     type Error = I::Error;
 
-    ghost contract = { seen_as (λ s. s.it) I.contract };
+    ghost contract = { around (λ s. s.it) I.contract };
 
     fn next(&mut self) -> Result<Option<I::Item>, I::Error> {
         add(&self.log.nexts);
@@ -142,11 +143,12 @@ impl<'a, I: FallibleIterator> FallibleIterator for Counted<'a, I> {
         self.it.drive_to(goal)
     }
 
-    ghost lawful = { lawful_seen (λ s. s.it) I.lawful };
+    ghost lawful = { lawful_around
+        (record { put = λ s it. record s { it = it }; has = λ s it. refl }) I.lawful };
 }
 
 impl<'a, I: DoubleEndedFallibleIterator> DoubleEndedFallibleIterator for Counted<'a, I> {
-    ghost ends = { ends_seen_as (λ s. s.it) I.ends };
+    ghost ends = { ends_around (λ s. s.it) I.ends };
 
     fn next_back(&mut self) -> Result<Option<I::Item>, I::Error> {
         add(&self.log.next_backs);
@@ -162,5 +164,6 @@ impl<'a, I: DoubleEndedFallibleIterator> DoubleEndedFallibleIterator for Counted
         self.it.drive_back(state, turn)
     }
 
-    ghost lawful_ends = { lawful_ends_seen (λ s. s.it) I.lawful_ends };
+    ghost lawful_ends = { lawful_ends_around
+        (record { put = λ s it. record s { it = it }; has = λ s it. refl }) I.lawful_ends };
 }
