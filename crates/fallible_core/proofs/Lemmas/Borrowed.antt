@@ -1,13 +1,11 @@
 -- The runs of a borrowed fallible iterator are those of the one that it points to.
 use Rattle.std.specs.Prelude.{◌≡◌, Result, List, [], ◌∷◌}
 use Rattle.std.specs.Borrow.{MutBor}
-use Rattle.std.proofs.Common.{refl, ap}
+use Rattle.std.proofs.Common.{ap}
 use Rattle.fallible_contract.specs.Traces.{Answered, Run}
 use Rattle.fallible_contract.specs.Contract.{Contract}
 use Rattle.fallible_contract.specs.Lists.{AlwaysGives, Lists}
 use Rattle.fallible_core.specs.Borrowed.{borrowed}
-use Rattle.std.specs.declared.boxed.Box.{Box}
-use Rattle.std.specs.declared.alloc.Global.{Global}
 
 module _ {S A E : Type 0} (steps : S → Answered A E → S → Type 0) where
   abbrev step_through : MutBor S → Answered A E → MutBor S → Type 0

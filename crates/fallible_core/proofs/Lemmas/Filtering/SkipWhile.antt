@@ -1,20 +1,13 @@
 -- What `SkipWhile` lists.
-use Rattle.std.specs.Prelude.{Option, Result, Bool, Some, None, Ok, Err, ◌≡◌, List, [], ◌∷◌, ◌++◌, map, true, false, IsSome, ◌↔◌}
-use Rattle.std.specs.List.{filter_map}
-use Rattle.std.proofs.Common.{refl, sym, ◌∙◌, ap, subst, append-nil}
+use Rattle.std.specs.Prelude.{Option, Result, Bool, Some, None, Ok, Err, ◌≡◌, List, [], ◌∷◌, true, false}
+use Rattle.std.proofs.Common.{refl, ◌∙◌, ap, subst}
 use Rattle.std.specs.Fn.{Mut}
 use Rattle.std.specs.Borrow.{Bor}
-use Rattle.fallible_contract.specs.Traces.{Answered, Run, item}
-use Rattle.fallible_contract.specs.Closures.{Calls, call_by_reference}
+use Rattle.fallible_contract.specs.Closures.{call_by_reference}
 use Rattle.fallible_contract.specs.Contract.{Contract, parts_as}
 use Rattle.fallible_contract.specs.Lists.{Lists, Acts}
 use Rattle.fallible_contract.proofs.Lemmas.Lists.Passing.{passed, by_outcome, gives_all, lists_seen}
-use Rattle.fallible_contract.specs.Passing.{PassTrace, Place, asked, failure_at, end_at, source_answer, call_of, answer_at}
-use Rattle.fallible_contract.specs.Laws.LawForm.{run_at_one_answer_iff_law}
-use Rattle.fallible_contract.specs.Laws.Passing.{passing_by_answers}
-use Rattle.fallible_contract.specs.Laws.Passing.{Passes, done, end_passes, failure_passes, keeps, refuses, closes, leaves_out, last_kept_tail, last_kept_cons, last_kept_before, answers_never_nil, passes_of_pass_trace, pass_trace_of_passes}
-use Rattle.fallible_core.specs.Laws.Hints.Filtering.{runs_without_calls_after_false}
-use Rattle.fallible_core.specs.Filtering.SkipWhile.{cons_from, skipped_while, skip_call, skip_while_outcome, skip_while_parts, skip_while_contract, answers_false, false_at, EndsAtFalse, asked_outcome, AskedUntilFalse, SkipWhileTrace}
+use Rattle.fallible_core.specs.Filtering.SkipWhile.{cons_from, skipped_while, skip_call, skip_while_outcome, skip_while_parts, skip_while_contract, answers_false}
 use Rattle.fallible_core.specs.declared.filtering.skip_while.SkipWhile.{SkipWhile}
 
 -- ---- what it lists

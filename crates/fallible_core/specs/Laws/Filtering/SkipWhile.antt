@@ -1,5 +1,5 @@
 -- The contract of `SkipWhile` is lawful where the source's is: its runs are the traces that its definition names.
-use Rattle.std.specs.Prelude.{Option, Result, Bool, Some, None, Ok, Err, ◌≡◌, List, [], ◌∷◌, ◌++◌, map, true, false, IsSome, ◌↔◌}
+use Rattle.std.specs.Prelude.{Result, Bool, Some, None, Ok, Err, ◌≡◌, List, [], ◌∷◌, ◌++◌, map, true, false, IsSome, ◌↔◌}
 use Rattle.std.specs.List.{filter_map}
 use Rattle.std.proofs.Common.{refl, sym, ◌∙◌, ap, subst, append-nil}
 use Rattle.std.specs.Fn.{Mut}
@@ -143,9 +143,10 @@ skip_while_law steps call p trace q = let law = run_at_one_answer_iff_law (PassT
     ((λ ran. skip_while_trace_of_passes steps call p.0 q.0 p.1 q.1 trace (passes_of_pass_trace (law.0 ran))), (λ d. law.1 (pass_trace_of_passes (passes_of_skip_while_trace steps call p.0 q.0 p.1 q.1 trace d))))
 
 pub skip_while_traced : {S F X E : Type 0} {steps : S → Answered X E → S → Type 0} {traces : S → List (Answered X E) → S → Type 0} (call : F → X → Result Bool E → F → Type 0) → IsTraced steps traces → IsTraced (λ u r v. PassTrace steps (skip_call call) skip_while_outcome u (r ∷ []) v) (SkipWhileTrace traces call)
-skip_while_traced {steps = steps} call law p trace q = let of_runs = skip_while_law steps call p trace q in
-    ((λ ran. let k = of_runs.0 ran in record { met = k.met; after = k.after; drawn = (law p.0 (map source_answer k.met ++ k.after) q.0).0 k.drawn; called = k.called; answers = k.answers; until_false = k.until_false }),
-    (λ d. of_runs.1 (record { met = d.met; after = d.after; drawn = (law p.0 (map source_answer d.met ++ d.after) q.0).1 d.drawn; called = d.called; answers = d.answers; until_false = d.until_false })))
+skip_while_traced {steps = steps} call law p trace q = let of_runs = skip_while_law steps call p trace q in (
+  (λ ran. let k = of_runs.0 ran in record { met = k.met; after = k.after; drawn = (law p.0 (map source_answer k.met ++ k.after) q.0).0 k.drawn; called = k.called; answers = k.answers; until_false = k.until_false }),
+  (λ d. of_runs.1 (record { met = d.met; after = d.after; drawn = (law p.0 (map source_answer d.met ++ d.after) q.0).1 d.drawn; called = d.called; answers = d.answers; until_false = d.until_false })),
+)
 
 -- ---- its contract
 
