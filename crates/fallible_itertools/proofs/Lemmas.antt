@@ -39,7 +39,6 @@ pub use Rattle.fallible_itertools_adapters.proofs.Lemmas.ChunkBy
 pub use Rattle.fallible_itertools_adapters.proofs.Lemmas.Chunked
 pub use Rattle.fallible_itertools_adapters.proofs.Lemmas.ChunkedBy
 pub use Rattle.fallible_itertools_adapters.proofs.Lemmas.Chunks
-pub use Rattle.fallible_itertools_adapters.proofs.Lemmas.ChunksHints
 pub use Rattle.fallible_itertools_adapters.proofs.Lemmas.Closed
 pub use Rattle.fallible_itertools_adapters.proofs.Lemmas.Coalesce
 pub use Rattle.fallible_itertools_adapters.proofs.Lemmas.Copied
@@ -60,14 +59,12 @@ pub use Rattle.fallible_itertools_adapters.proofs.Lemmas.LoopsMade
 pub use Rattle.fallible_itertools_adapters.proofs.Lemmas.OrElse
 pub use Rattle.fallible_itertools_adapters.proofs.Lemmas.PeekingTakeWhile
 pub use Rattle.fallible_itertools_adapters.proofs.Lemmas.Plan
-pub use Rattle.fallible_itertools_adapters.proofs.Lemmas.PlanHints
 pub use Rattle.fallible_itertools_adapters.proofs.Lemmas.Positions
 pub use Rattle.fallible_itertools_adapters.proofs.Lemmas.RunCounts
 pub use Rattle.fallible_itertools_adapters.proofs.Lemmas.Sieved
 pub use Rattle.fallible_itertools_adapters.proofs.Lemmas.Staged
 pub use Rattle.fallible_itertools_adapters.proofs.Lemmas.StagedMade
 pub use Rattle.fallible_itertools_adapters.proofs.Lemmas.Staging
-pub use Rattle.fallible_itertools_adapters.proofs.Lemmas.StagingHints
 pub use Rattle.fallible_itertools_adapters.proofs.Lemmas.StagingLists
 pub use Rattle.fallible_itertools_adapters.proofs.Lemmas.StopAfter
 pub use Rattle.fallible_itertools_adapters.proofs.Lemmas.TakeWhileInclusive
@@ -78,7 +75,6 @@ pub use Rattle.fallible_itertools_adapters.proofs.Lemmas.UniqueBy
 pub use Rattle.fallible_itertools_adapters.proofs.Lemmas.UniqueByOf
 pub use Rattle.fallible_itertools_adapters.proofs.Lemmas.UniqueOf
 pub use Rattle.fallible_itertools_adapters.proofs.Lemmas.UnlessRefused
-pub use Rattle.fallible_itertools_adapters.proofs.Lemmas.WindowHints
 pub use Rattle.fallible_itertools_adapters.proofs.Lemmas.WithPosition
 pub use Rattle.fallible_itertools_joins.proofs.Lemmas.Interleave
 pub use Rattle.fallible_itertools_joins.proofs.Lemmas.KMerge

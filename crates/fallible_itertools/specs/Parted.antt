@@ -1,10 +1,11 @@
 -- The items and the failures of an iterator, as values of two kinds.
-use Rattle.std.specs.Prelude.{◌≡◌, ◌≤◌, Some, None, Result, Ok, Err, List, [], ◌∷◌, IfOk}
+use Rattle.std.specs.Prelude.{◌≡◌, ◌≤◌, Some, None, Result, Ok, Err, List, [], ◌∷◌, IfOk, map}
 use Rattle.std.specs.Iterator.{IsFinite, size}
-use Rattle.fallible_iterator.specs.Traces.{Answered, Run}
+use Rattle.std.proofs.Common.{refl}
+use Rattle.fallible_iterator.specs.Traces.{Answered}
 use Rattle.fallible_iterator.specs.BothEnds.{items_listed, failures_listed}
-use Rattle.fallible_iterator.specs.Contract.{Contract}
-use Rattle.fallible_iterator.specs.Sound.{own_sound}
+use Rattle.fallible_iterator.specs.Contract.{Contract, Inverse}
+use Rattle.fallible_iterator.specs.Sound.{sound_always}
 use Rattle.fallible_iterator.specs.Fault.{Fault}
 use Rattle.fallible_iterator.specs.Fault.TheVariants.{Memory}
 use Rattle.fallible_itertools.specs.declared.parted.Parted.{Parted}
@@ -20,6 +21,16 @@ module _ {A E : Type 0} where
   parted_step steps s (Ok (Some (Right e))) t = steps s (Err e) t
   parted_step steps s (Ok None) t = steps s (Ok None) t
   parted_step steps s (Err never) t = ⊥
+
+  -- an answer of the source, as a value of its kind
+  abbrev pub parted_answer : Answered A E → Answered (Either A E) Infallible
+  parted_answer (Ok (Some x)) = Ok (Some (Left x))
+  parted_answer (Ok None) = Ok None
+  parted_answer (Err e) = Ok (Some (Right e))
+
+  -- `Parted`: the source's trace, each answer as a value of its kind.
+  abbrev pub PartedTrace : {S : Type 0} → (S → List (Answered A E) → S → Type 0) → S → List (Answered (Either A E) Infallible) → S → Type 0
+  PartedTrace traces s trace t = (drawn : List (Answered A E)) × traces s drawn t × (trace ≡ map parted_answer drawn)
 
   -- the item may still come, or the failure may
   abbrev pub EitherMayCome : (A → Type 0) → (E → Type 0) → Either A E → Type 0
@@ -44,13 +55,17 @@ parted_contract m = record {
   may_fail = λ s never. ⊥;
   hints = λ s h. h ≡ (0, None);
   lenders = λ s. m.lenders s;
-  traces = λ s trace t. Run (parted_step m.steps) s trace t;
-  sound = own_sound (parted_step m.steps);
+  traces = PartedTrace m.traces;
+  sound = sound_always;
 }
 
 -- the source
 abbrev pub parted_source : {I : Type 0} → Parted I → I
 parted_source s = s.it
+
+-- and back
+pub parted_made : {I : Type 0} → Inverse (parted_source {I = I})
+parted_made = record { make = λ it. record { it = it }; made = λ s. refl; has = λ it. refl }
 
 -- the result where the source never fails
 abbrev pub without_source : {C E : Type 0} → Result C AllocError → Result C (Fault E)

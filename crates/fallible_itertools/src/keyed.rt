@@ -1,9 +1,9 @@
 //! Items beside the keys that a closure makes of them.
 ghost use Rattle.std.specs.Prelude.{Result, Option};
 ghost use Rattle.fallible_iterator.specs.Closures.{call_by_reference, takes_by_reference};
-ghost use Rattle.fallible_iterator.specs.Contract.{seen_as};
-ghost use Rattle.fallible_iterator.specs.Laws.Contract.{lawful_seen};
-ghost use Rattle.fallible_itertools.specs.Keyed.{keyed_contract, keyed_outcome, keyed_parts};
+ghost use Rattle.fallible_iterator.specs.Contract.{parts_as};
+ghost use Rattle.fallible_iterator.specs.Laws.Contract.{lawful_parts};
+ghost use Rattle.fallible_itertools.specs.Keyed.{keyed_contract, keyed_made, keyed_outcome, keyed_parts};
 ghost use Rattle.fallible_itertools.specs.Laws.Keyed.{lawful_keyed};
 
 use fallible_iterator::extending::{Outcome, Pass, drive_passing, passed};
@@ -27,7 +27,7 @@ where
 
     type Error = I::Error;
 
-    ghost contract = { seen_as keyed_parts (keyed_contract I.contract F.FnMut) };
+    ghost contract = { parts_as keyed_parts (keyed_contract I.contract F.FnMut) };
 
     /// Draws once, and calls the closure on an item.
     fn next(&mut self) -> Result<Option<(K, I::Item)>, I::Error> {
@@ -46,7 +46,7 @@ where
         drive_passing(&mut self.it, &mut self.f, &KeyPass, state, turn)
     }
 
-    ghost lawful = { lawful_seen keyed_parts (lawful_keyed F.FnMut I.lawful) };
+    ghost lawful = { lawful_parts keyed_made (lawful_keyed F.FnMut I.lawful) };
 }
 
 // What becomes of an item by the closure's result.

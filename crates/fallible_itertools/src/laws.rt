@@ -9,18 +9,12 @@ pub use failures::{law_partition_failures, law_until_failure};
 pub use fallible_itertools_adapters::laws::nests::law_nest_of_six;
 pub use fallible_itertools_adapters::laws::{
     law_chunked, law_chunked_by, law_coalesced, law_deduped, law_deduped_by, law_deduped_by_key,
-    law_deduped_by_with_count, law_deduped_with_count, law_duplicates_of, law_hints_back_copied,
-    law_hints_back_err_into, law_hints_back_inspect_err, law_hints_chunk_by, law_hints_chunks,
-    law_hints_coalesce, law_hints_copied, law_hints_dedup, law_hints_dedup_by,
-    law_hints_dedup_by_key, law_hints_dedup_by_with_count, law_hints_dedup_with_count,
-    law_hints_duplicates, law_hints_err_into, law_hints_fuse_at_failure, law_hints_inspect_err,
-    law_hints_intersperse, law_hints_intersperse_with, law_hints_listed_copied,
+    law_deduped_by_with_count, law_deduped_with_count, law_duplicates_of, law_hints_back_err_into,
+    law_hints_back_inspect_err, law_hints_err_into, law_hints_inspect_err, law_hints_listed_copied,
     law_hints_listed_err_into, law_hints_listed_inspect_err, law_hints_or_else,
-    law_hints_peeking_take_while, law_hints_positions, law_hints_stop_after,
-    law_hints_take_while_inclusive, law_hints_tuple_windows, law_hints_tuples, law_hints_unique,
-    law_hints_unique_by, law_hints_with_position, law_interspersed, law_interspersed_by,
-    law_positioned, law_rest_peeking_take_while, law_taken_while_inclusive, law_tupled,
-    law_unique_by_of, law_unique_of, law_windowed,
+    law_hints_past_failure, law_interspersed, law_interspersed_by, law_positioned,
+    law_rest_peeking_take_while, law_taken_while_inclusive, law_tupled, law_unique_by_of,
+    law_unique_of, law_windowed,
 };
 pub use fallible_itertools_joins::laws::{
     law_interleaved, law_kmerged, law_kmerged_in_order, law_merge_joined, law_merged,

@@ -1,8 +1,8 @@
 //! The items and the failures of an iterator, as values of two kinds.
 ghost use Rattle.std.specs.Prelude.{◌≡◌};
-ghost use Rattle.fallible_iterator.specs.Contract.{seen_as};
-ghost use Rattle.fallible_iterator.specs.Laws.Contract.{lawful_seen};
-ghost use Rattle.fallible_itertools.specs.Parted.{parted_contract, parted_source, without_source};
+ghost use Rattle.fallible_iterator.specs.Contract.{parts_as};
+ghost use Rattle.fallible_iterator.specs.Laws.Contract.{lawful_parts};
+ghost use Rattle.fallible_itertools.specs.Parted.{parted_contract, parted_made, parted_source, without_source};
 ghost use Rattle.fallible_itertools.specs.Laws.Parted.{lawful_parted};
 
 use crate::partition_map::Either;
@@ -22,7 +22,7 @@ impl<I: FallibleIterator> FallibleIterator for Parted<I> {
 
     type Error = Infallible;
 
-    ghost contract = { seen_as parted_source (parted_contract I.contract) };
+    ghost contract = { parts_as parted_source (parted_contract I.contract) };
 
     /// Draws once.
     fn next(&mut self) -> Result<Option<Either<I::Item, I::Error>>, Infallible> {
@@ -37,7 +37,7 @@ impl<I: FallibleIterator> FallibleIterator for Parted<I> {
         (0, None)
     }
 
-    ghost lawful = { lawful_seen parted_source (lawful_parted I.lawful) };
+    ghost lawful = { lawful_parts parted_made (lawful_parted I.lawful) };
 }
 
 /// Returns the collection, or the allocation failure; the source never fails.

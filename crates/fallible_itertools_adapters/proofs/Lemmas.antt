@@ -6,7 +6,6 @@ pub mod ChunkBy
 pub mod Chunked
 pub mod ChunkedBy
 pub mod Chunks
-pub mod ChunksHints
 pub mod Closed
 pub mod Coalesce
 pub mod Copied
@@ -27,14 +26,12 @@ pub mod LoopsMade
 pub mod OrElse
 pub mod PeekingTakeWhile
 pub mod Plan
-pub mod PlanHints
 pub mod Positions
 pub mod RunCounts
 pub mod Sieved
 pub mod Staged
 pub mod StagedMade
 pub mod Staging
-pub mod StagingHints
 pub mod StagingLists
 pub mod StopAfter
 pub mod TakeWhileInclusive
@@ -45,5 +42,4 @@ pub mod UniqueBy
 pub mod UniqueByOf
 pub mod UniqueOf
 pub mod UnlessRefused
-pub mod WindowHints
 pub mod WithPosition

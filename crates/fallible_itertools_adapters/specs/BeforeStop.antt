@@ -1,9 +1,10 @@
 -- Adapters that hold what they drew until a later item or a stop decides what becomes of it. At a stop what is held comes first: the stop is due then, and is the next answer.
-use Rattle.std.specs.Prelude.{◌≡◌, ℕ, ◌+◌, min, Option, Some, None, Err}
-use Rattle.fallible_iterator.specs.Traces.{item}
+use Rattle.std.specs.Prelude.{ℕ, ◌+◌, min, Option, Some, None, Err, IsSome}
+use Rattle.fallible_iterator.specs.Traces.{item, Answered}
 use Rattle.fallible_iterator.specs.Contract.{Contract}
 use Rattle.fallible_iterator.specs.Hints.{fitting_sum}
-use Rattle.fallible_iterator.specs.SoundHints.{HintsAsSoundAs, SoundHints}
+use Rattle.fallible_iterator.specs.Cutting.Take.{as_made}
+use Rattle.fallible_iterator.specs.Sound.{SoundWhere, sound_once}
 use Rattle.fallible_itertools_adapters.specs.Plan.{HintPlan, calls, makes}
 use Rattle.fallible_itertools_adapters.specs.Staging.{Emitted, emitted_then, one_emitted, stop_answer}
 
@@ -33,12 +34,10 @@ hint_unless_end hint None = hint
 abbrev pub held_hint_plan : {H E : Type 0} → (H → ℕ) → H → Option (Option E) → HintPlan
 held_hint_plan held h due = hint_unless_end (calls tt (held_hint (held h))) due
 
--- If s returns the failure e, each hint that s may return is one that the value after it may return.
-abbrev pub HintsPastFailure : {S B E : Type 0} → Contract S B E → S → E → Type 0
-HintsPastFailure {S = S} m s e = (t : S) (h : ℕ × Option ℕ) → m.steps s (Err e) t → m.hints s h → m.hints t h
+-- Hints are sound once a stop is due, and before wherever the hint of the source is that they are made of.
+abbrev pub held_sound : {S H F X E : Type 0} → Contract S X E → (H → ℕ × Option ℕ → ℕ × Option ℕ) → SoundWhere (S × ((H × F) × Option (Option E)))
+held_sound m made = sound_once (λ p. IsSome p.1.1) (as_made (λ p. p.0) m.hints m.sound (λ p. made p.1.0.0))
 
--- Each hint of an adapter that holds is as sound as the hint of its source that it is made of; if a stop is due it is sound by itself, and if that is a failure it is that of what comes after it. `due_of` is the stop that is due, and `it` the source.
-pub record HintsWhereHeld {V S X B E : Type 0} (m : Contract V B E) (due_of : V → Option (Option E)) (source : Contract S X E) (it : V → S) : Type 0 where
-  pub none_due : (s : V) → due_of s ≡ None → HintsAsSoundAs m s source (it s)
-  pub due : (s : V) (stop : Option E) → due_of s ≡ Some stop → SoundHints m s
-  pub failure_due : (s : V) (e : E) → due_of s ≡ Some (Some e) → HintsPastFailure m s e
+-- If s returns the failure e, each hint that s may return is one that the value after it may return.
+abbrev pub HintsPastFailure : {S B E : Type 0} → (S → Answered B E → S → Type 0) → (S → ℕ × Option ℕ → Type 0) → S → E → Type 0
+HintsPastFailure {S = S} steps hints s e = (t : S) (h : ℕ × Option ℕ) → steps s (Err e) t → hints s h → hints t h

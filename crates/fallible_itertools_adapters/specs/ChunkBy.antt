@@ -6,7 +6,7 @@ use Rattle.fallible_iterator.specs.Closures.{call_by_reference, takes_by_referen
 use Rattle.fallible_iterator.specs.Traces.{Answered, item}
 use Rattle.fallible_iterator.specs.Contract.{Contract, Inverse}
 use Rattle.fallible_itertools_adapters.specs.Batch.{Put, Puts, put_last}
-use Rattle.fallible_itertools_adapters.specs.BeforeStop.{before_stop, held_hint_plan, held_one}
+use Rattle.fallible_itertools_adapters.specs.BeforeStop.{before_stop, held_hint_plan, held_one, held_hint, held_sound}
 use Rattle.fallible_itertools_adapters.specs.Plan.{Transition, Plan, bounded, calls, closure_contract, plan_meets}
 use Rattle.fallible_itertools_adapters.specs.Staged.{as_function, plan_does, staged}
 use Rattle.fallible_itertools_adapters.specs.Staging.{StagedTrace, one_emitted, stop_comes}
@@ -77,7 +77,7 @@ module _ {F A K E : Type 0} (from : AllocError → E → Type 0) (eq : K → K �
 
   -- `ChunkBy`'s contract. Its condition: one of the source, a bound of it, and that the closure may be called on what comes.
   abbrev pub chunk_by_contract : {S : Type 0} → Contract S A E → Contract (S × ((Option (Group K A) × F) × Option (Option E))) (Group K A) E
-  chunk_by_contract m = closure_contract (bounded m) stop_comes puts_by_key (takes_key g) (chunk_by_plan eq) chunk_by_stops 1 held_one (held_hint_plan held_one)
+  chunk_by_contract m = record (closure_contract (bounded m) stop_comes puts_by_key (takes_key g) (chunk_by_plan eq) chunk_by_stops 1 held_one (held_hint_plan held_one) (held_sound m (λ held. held_hint (held_one held)))) { traces = ChunkByTrace m.traces }
 
 -- ---- what it lists
 
@@ -96,14 +96,6 @@ abbrev pub MadeGroup : {A K : Type 0} → K × List A → Group K A → Type 0
 MadeGroup k g = (g.0 ≡ k.0) × (vec_items g.1 ≡ k.1)
 
 -- ---- its parts
-
--- the source
-abbrev pub chunk_by_source : {I K F A E : Type 0} → ChunkBy I K F A E → I
-chunk_by_source s = s.it
-
--- the stop that is due, if one is
-abbrev pub chunk_by_due : {I K F A E : Type 0} → ChunkBy I K F A E → Option (Option E)
-chunk_by_due s = s.stage.1
 
 -- the source, the group that is held beside the key's closure, and the stop that is due
 abbrev pub chunk_by_parts : {I K F A E : Type 0} → ChunkBy I K F A E → I × ((Option (Group K A) × F) × Option (Option E))

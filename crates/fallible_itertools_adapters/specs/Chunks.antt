@@ -4,7 +4,7 @@ use Rattle.fallible_iterator.specs.Traces.{Answered, item}
 use Rattle.fallible_iterator.specs.Contract.{Contract, Inverse}
 use Rattle.fallible_iterator.specs.Hints.{fitting_sum}
 use Rattle.fallible_itertools_adapters.specs.Batch.{Put, Puts, held_without_item, put_last}
-use Rattle.fallible_itertools_adapters.specs.BeforeStop.{before_stop, held_one, hint_unless_end}
+use Rattle.fallible_itertools_adapters.specs.BeforeStop.{before_stop, held_one, hint_unless_end, held_sound}
 use Rattle.fallible_itertools_adapters.specs.Plan.{HintPlan, Transition, Plan, calls, plan_contract, plan_meets}
 use Rattle.fallible_itertools_adapters.specs.Staged.{as_function, plan_does, staged}
 use Rattle.fallible_itertools_adapters.specs.Staging.{StagedTrace, one_emitted, stop_comes}
@@ -74,7 +74,7 @@ module _ {A E : Type 0} (from : AllocError → E → Type 0) where
 
   -- `Chunks`' contract. It requires no bound of the source: one draw leaves out fewer items than a batch has.
   abbrev pub chunks_contract : {S : Type 0} → Contract S A E → Contract (S × (((ℕ × Option (Vec A Global)) × Unit {0}) × Option (Option E))) (Vec A Global) E
-  chunks_contract m = plan_contract m stop_comes puts (chunks_plan vec_count) chunks_stops 1 batch_held chunks_hint_plan
+  chunks_contract m = record (plan_contract m stop_comes puts (chunks_plan vec_count) chunks_stops 1 batch_held chunks_hint_plan (held_sound m batches_hint)) { traces = ChunksTrace m.traces }
 
 -- ---- what it lists
 
@@ -99,14 +99,6 @@ BatchesOf n (b ∷ []) = (0 < length b) × (length b ≤ n)
 BatchesOf n (b ∷ c ∷ bs) = (length b ≡ n) × BatchesOf n (c ∷ bs)
 
 -- ---- its parts
-
--- the source
-abbrev pub chunks_source : {I A E : Type 0} → Chunks I A E → I
-chunks_source s = s.it
-
--- the stop that is due, if one is
-abbrev pub chunks_due : {I A E : Type 0} → Chunks I A E → Option (Option E)
-chunks_due s = s.stage.1
 
 -- the source, beside the size the batch that is held, and the stop that is due
 abbrev pub chunks_parts : {I A E : Type 0} → Chunks I A E → I × (((ℕ × Option (Vec A Global)) × Unit {0}) × Option (Option E))

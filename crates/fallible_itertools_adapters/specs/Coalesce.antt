@@ -4,7 +4,7 @@ use Rattle.std.specs.Fn.{Mut}
 use Rattle.fallible_iterator.specs.Traces.{Answered, failure, item}
 use Rattle.fallible_iterator.specs.Contract.{Contract, Inverse}
 use Rattle.fallible_iterator.specs.Folds.{call_with, takes_with}
-use Rattle.fallible_itertools_adapters.specs.BeforeStop.{held_hint_plan, held_one}
+use Rattle.fallible_itertools_adapters.specs.BeforeStop.{held_hint_plan, held_one, held_hint, held_sound}
 use Rattle.fallible_itertools_adapters.specs.Dedup.{dedup_stops}
 use Rattle.fallible_itertools_adapters.specs.Plan.{Transition, Plan, bounded, calls, closure_contract, makes, plan_meets}
 use Rattle.fallible_itertools_adapters.specs.Staged.{as_function, plan_does, staged}
@@ -41,20 +41,12 @@ module _ {A F E : Type 0} (g : Mut F (A × (A × Unit {0})) (OneOrBoth A E)) whe
 
   -- `Coalesce`'s contract
   abbrev pub coalesce_contract : {S : Type 0} → Contract S A E → Contract (S × ((Option A × F) × Option (Option E))) A E
-  coalesce_contract m = closure_contract (bounded m) stop_comes coalesce_call coalesce_takes coalesce_plan dedup_stops 1 held_one (held_hint_plan held_one)
+  coalesce_contract m = record (closure_contract (bounded m) stop_comes coalesce_call coalesce_takes coalesce_plan dedup_stops 1 held_one (held_hint_plan held_one) (held_sound m (λ held. held_hint (held_one held)))) { traces = CoalesceTrace m.traces }
 
 -- The closure returns two items that it keeps apart as they are, and what it makes of the second one and the next is still apart from the first.
 pub record KeepsApart {A E : Type 0} (h : A → A → OneOrBoth A E) : Type 0 where
   pub as_they_are : (x y : A) (both : A × A) → h x y ≡ Ok (Err both) → both ≡ (x, y)
   pub stays : (x y z w : A) → h x y ≡ Ok (Err (x, y)) → h y z ≡ Ok (Ok w) → h x w ≡ Ok (Err (x, w))
-
--- the source
-abbrev pub coalesce_source : {I A E F : Type 0} → Coalesce I F A E → I
-coalesce_source s = s.it
-
--- the stop that is due, if one is
-abbrev pub coalesce_due : {I A E F : Type 0} → Coalesce I F A E → Option (Option E)
-coalesce_due s = s.stage.1
 
 -- the source, what is held beside the closure, and the stop that is due
 abbrev pub coalesce_parts : {I A E F : Type 0} → Coalesce I F A E → I × ((Option A × F) × Option (Option E))

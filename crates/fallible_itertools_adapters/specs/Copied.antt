@@ -3,11 +3,12 @@ use Rattle.std.specs.Prelude.{⊤, List}
 use Rattle.std.specs.Borrow.{Bor}
 use Rattle.fallible_iterator.specs.Traces.{Answered}
 use Rattle.fallible_iterator.specs.Contract.{Contract, Inverse}
-use Rattle.fallible_iterator.specs.Passing.{PassTrace, passing_contract}
+use Rattle.fallible_iterator.specs.Passing.{passes_all, passing_contract}
 use Rattle.fallible_iterator.specs.Outcome.{Outcome}
 use Rattle.fallible_iterator.specs.Outcome.TheVariants.{Kept}
 use Rattle.fallible_itertools_adapters.specs.declared.copied.Copied.{Copied}
 use Rattle.std.proofs.Common.{refl}
+use Rattle.fallible_iterator.specs.Sound.{as_source}
 
 -- An item becomes the value that it points to; no closure is called.
 abbrev pub copied_outcome : {T E : Type 0} → Bor T → Unit {0} → Outcome T E
@@ -18,12 +19,12 @@ abbrev pub copied_call : {T : Type 0} → Unit {0} → Bor T → Unit {0} → Un
 copied_call u x v w = ⊤
 
 -- `Copied`: the source's trace, where each item is replaced by the value that it points to.
-abbrev pub CopiedTrace : {S T E : Type 0} → (S → Answered (Bor T) E → S → Type 0) → S × Unit {0} → List (Answered T E) → S × Unit {0} → Type 0
-CopiedTrace steps p trace q = PassTrace steps copied_call copied_outcome p trace q
+abbrev pub CopiedTrace : {S T E : Type 0} → (S → List (Answered (Bor T) E) → S → Type 0) → S × Unit {0} → List (Answered T E) → S × Unit {0} → Type 0
+CopiedTrace traces p trace q = passes_all traces copied_call copied_outcome p trace q
 
 -- `Copied`'s contract. It requires nothing more than the source, and has the source's hint.
 abbrev pub copied_contract : {S T E : Type 0} → Contract S (Bor T) E → Contract (S × Unit {0}) T E
-copied_contract m = passing_contract m copied_call (λ P u. ⊤) copied_outcome (λ p h. m.hints p.0 h)
+copied_contract m = record (passing_contract m copied_call (λ P u. ⊤) copied_outcome (λ p h. m.hints p.0 h)) { traces = CopiedTrace m.traces; sound = as_source (λ p. p.0) m.sound }
 
 -- the source
 abbrev pub copied_source : {I : Type 0} → Copied I → I

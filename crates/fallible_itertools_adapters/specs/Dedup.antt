@@ -2,7 +2,7 @@
 use Rattle.std.specs.Prelude.{Bool, true, false, Option, Some, None, Result, List}
 use Rattle.fallible_iterator.specs.Traces.{Answered, item}
 use Rattle.fallible_iterator.specs.Contract.{Contract, Inverse}
-use Rattle.fallible_itertools_adapters.specs.BeforeStop.{before_stop, held_hint_plan, held_one}
+use Rattle.fallible_itertools_adapters.specs.BeforeStop.{before_stop, held_hint_plan, held_one, held_hint, held_sound}
 use Rattle.fallible_itertools_adapters.specs.Plan.{Transition, Plan, bounded, calls_nothing, makes, plan_contract, plan_meets}
 use Rattle.fallible_itertools_adapters.specs.Staged.{as_function, plan_does, staged}
 use Rattle.fallible_itertools_adapters.specs.Staging.{StagedTrace, one_emitted, stop_comes}
@@ -30,15 +30,11 @@ module _ {A : Type 0} (eq : A → A → Bool) where
 
   -- `Dedup`'s contract
   abbrev pub dedup_contract : {S E : Type 0} → Contract S A E → Contract (S × ((Option A × Unit {0}) × Option (Option E))) A E
-  dedup_contract m = plan_contract (bounded m) stop_comes calls_nothing dedup_plan dedup_stops 1 held_one (held_hint_plan held_one)
+  dedup_contract m = record (plan_contract (bounded m) stop_comes calls_nothing dedup_plan dedup_stops 1 held_one (held_hint_plan held_one) (held_sound m (λ held. held_hint (held_one held)))) { traces = DedupTrace m.traces }
 
   -- the first of adjacent equal items; a failure parts them
   unfoldable pub deduped : {E : Type 0} → List (Result A E) → List (Result A E)
   deduped l = staged stop_comes (plan_does (as_function (λ u. u)) dedup_plan dedup_stops) (None, tt) l
-
--- the source
-abbrev pub dedup_source : {I A E : Type 0} → Dedup I A E → I
-dedup_source s = s.it
 
 -- the source, the item that is held, and the stop that is due
 abbrev pub dedup_parts : {I A E : Type 0} → Dedup I A E → I × ((Option A × Unit {0}) × Option (Option E))
@@ -47,7 +43,3 @@ dedup_parts s = (s.it, s.stage)
 -- and back
 pub dedup_made : {I A E : Type 0} → Inverse (dedup_parts {I = I} {A = A} {E = E})
 dedup_made = record { make = λ p. record { it = p.0; stage = p.1 }; made = λ s. refl; has = λ p. refl }
-
--- the stop that is due, if one is
-abbrev pub dedup_due : {I A E : Type 0} → Dedup I A E → Option (Option E)
-dedup_due s = s.stage.1

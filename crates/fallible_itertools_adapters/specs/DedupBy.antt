@@ -5,7 +5,7 @@ use Rattle.std.specs.Borrow.{Bor}
 use Rattle.fallible_iterator.specs.Traces.{Answered}
 use Rattle.fallible_iterator.specs.Contract.{Contract, Inverse}
 use Rattle.fallible_iterator.specs.Picking.{call_at_two, takes_at_two}
-use Rattle.fallible_itertools_adapters.specs.BeforeStop.{held_hint_plan, held_one}
+use Rattle.fallible_itertools_adapters.specs.BeforeStop.{held_hint_plan, held_one, held_hint, held_sound}
 use Rattle.fallible_itertools_adapters.specs.Dedup.{dedup_stops, unless_same}
 use Rattle.fallible_itertools_adapters.specs.Plan.{Transition, Plan, bounded, calls, closure_contract, makes, plan_meets}
 use Rattle.fallible_itertools_adapters.specs.Staged.{as_function, plan_does, staged}
@@ -37,15 +37,7 @@ module _ {A F E : Type 0} (g : Mut F (Bor A × (Bor A × Unit {0})) (Result Bool
 
   -- `DedupBy`'s contract
   abbrev pub dedup_by_contract : {S : Type 0} → Contract S A E → Contract (S × ((Option A × F) × Option (Option E))) A E
-  dedup_by_contract m = closure_contract (bounded m) stop_comes same_call same_takes dedup_by_plan dedup_stops 1 held_one (held_hint_plan held_one)
-
--- the source
-abbrev pub dedup_by_source : {I A E F : Type 0} → DedupBy I F A E → I
-dedup_by_source s = s.it
-
--- the stop that is due, if one is
-abbrev pub dedup_by_due : {I A E F : Type 0} → DedupBy I F A E → Option (Option E)
-dedup_by_due s = s.stage.1
+  dedup_by_contract m = record (closure_contract (bounded m) stop_comes same_call same_takes dedup_by_plan dedup_stops 1 held_one (held_hint_plan held_one) (held_sound m (λ held. held_hint (held_one held)))) { traces = DedupByTrace m.traces }
 
 -- the source, what is held beside the closure, and the stop that is due
 abbrev pub dedup_by_parts : {I A E F : Type 0} → DedupBy I F A E → I × ((Option A × F) × Option (Option E))

@@ -5,7 +5,7 @@ use Rattle.std.specs.Borrow.{Bor}
 use Rattle.fallible_iterator.specs.Traces.{Answered, item}
 use Rattle.fallible_iterator.specs.Contract.{Contract, Inverse}
 use Rattle.fallible_iterator.specs.Closures.{call_by_reference, takes_by_reference}
-use Rattle.fallible_itertools_adapters.specs.BeforeStop.{before_stop, held_hint_plan, held_one}
+use Rattle.fallible_itertools_adapters.specs.BeforeStop.{before_stop, held_hint_plan, held_one, held_hint, held_sound}
 use Rattle.fallible_itertools_adapters.specs.Plan.{Transition, Plan, bounded, calls, closure_contract, plan_meets}
 use Rattle.fallible_itertools_adapters.specs.Staged.{as_function, plan_does, staged}
 use Rattle.fallible_itertools_adapters.specs.Staging.{StagedTrace, one_emitted, stop_comes}
@@ -44,19 +44,11 @@ module _ {A K : Type 0} (eq : K → K → Bool) where
 
     -- `DedupByKey`'s contract
     abbrev pub dedup_by_key_contract : {S : Type 0} → Contract S A E → Contract (S × ((Option (K × A) × F) × Option (Option E))) A E
-    dedup_by_key_contract m = closure_contract (bounded m) stop_comes (call_by_reference g) (takes_by_reference g) dedup_key_plan dedup_key_stops 1 held_one (held_hint_plan held_one)
+    dedup_by_key_contract m = record (closure_contract (bounded m) stop_comes (call_by_reference g) (takes_by_reference g) dedup_key_plan dedup_key_stops 1 held_one (held_hint_plan held_one) (held_sound m (λ held. held_hint (held_one held)))) { traces = DedupByKeyTrace m.traces }
 
   -- The first of adjacent items with equal keys, which h makes; where h fails, its failure in the item's place. Before a failure comes the item that is held.
   unfoldable pub deduped_by_key : {E : Type 0} → (A → Result K E) → List (Result A E) → List (Result A E)
   deduped_by_key h l = staged stop_comes (plan_does (as_function h) dedup_key_plan dedup_key_stops) (None, tt) l
-
--- the source
-abbrev pub dedup_by_key_source : {I A E K F : Type 0} → DedupByKey I K F A E → I
-dedup_by_key_source s = s.it
-
--- the stop that is due, if one is
-abbrev pub dedup_by_key_due : {I A E K F : Type 0} → DedupByKey I K F A E → Option (Option E)
-dedup_by_key_due s = s.stage.1
 
 -- the source, what is held beside the closure, and the stop that is due
 abbrev pub dedup_by_key_parts : {I A E K F : Type 0} → DedupByKey I K F A E → I × ((Option (K × A) × F) × Option (Option E))

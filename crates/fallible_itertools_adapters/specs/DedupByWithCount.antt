@@ -4,7 +4,7 @@ use Rattle.std.specs.Fn.{Mut}
 use Rattle.std.specs.Borrow.{Bor}
 use Rattle.fallible_iterator.specs.Traces.{Answered}
 use Rattle.fallible_iterator.specs.Contract.{Contract, Inverse}
-use Rattle.fallible_itertools_adapters.specs.BeforeStop.{held_hint_plan, held_one}
+use Rattle.fallible_itertools_adapters.specs.BeforeStop.{held_hint_plan, held_one, held_hint, held_sound}
 use Rattle.fallible_itertools_adapters.specs.DedupBy.{same_call, same_takes}
 use Rattle.fallible_itertools_adapters.specs.Plan.{bounded, closure_contract, plan_meets}
 use Rattle.fallible_itertools_adapters.specs.RunCounts.{count_plan, count_stops}
@@ -19,15 +19,7 @@ module _ {A F E : Type 0} (g : Mut F (Bor A × (Bor A × Unit {0})) (Result Bool
 
   -- `DedupByWithCount`'s contract: the closure may be called on references to what is held and each item that may come.
   abbrev pub dedup_by_with_count_contract : {S : Type 0} → Contract S A E → Contract (S × ((Option (ℕ × A) × F) × Option (Option E))) (ℕ × A) E
-  dedup_by_with_count_contract m = closure_contract (bounded m) stop_comes (same_call g) (same_takes g) count_plan count_stops 1 held_one (held_hint_plan held_one)
-
--- the source
-abbrev pub dedup_by_with_count_source : {I A E F : Type 0} → DedupByWithCount I F A E → I
-dedup_by_with_count_source s = s.it
-
--- the stop that is due, if one is
-abbrev pub dedup_by_with_count_due : {I A E F : Type 0} → DedupByWithCount I F A E → Option (Option E)
-dedup_by_with_count_due s = s.stage.1
+  dedup_by_with_count_contract m = record (closure_contract (bounded m) stop_comes (same_call g) (same_takes g) count_plan count_stops 1 held_one (held_hint_plan held_one) (held_sound m (λ held. held_hint (held_one held)))) { traces = DedupByWithCountTrace m.traces }
 
 -- the source, what is held beside the closure, and the stop that is due
 abbrev pub dedup_by_with_count_parts : {I A E F : Type 0} → DedupByWithCount I F A E → I × ((Option (ℕ × A) × F) × Option (Option E))

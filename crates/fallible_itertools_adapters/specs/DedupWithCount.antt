@@ -2,7 +2,7 @@
 use Rattle.std.specs.Prelude.{ℕ, Bool, Option, Result, Ok, List}
 use Rattle.fallible_iterator.specs.Traces.{Answered}
 use Rattle.fallible_iterator.specs.Contract.{Contract, Inverse}
-use Rattle.fallible_itertools_adapters.specs.BeforeStop.{held_hint_plan, held_one}
+use Rattle.fallible_itertools_adapters.specs.BeforeStop.{held_hint_plan, held_one, held_hint, held_sound}
 use Rattle.fallible_itertools_adapters.specs.Plan.{bounded, plan_contract, plan_meets}
 use Rattle.fallible_itertools_adapters.specs.RunCounts.{count_plan, count_stops}
 use Rattle.fallible_itertools_adapters.specs.Staged.{calls_function}
@@ -21,11 +21,7 @@ module _ {A : Type 0} (eq : A → A → Bool) where
 
   -- `DedupWithCount`'s contract
   abbrev pub dedup_with_count_contract : {S E : Type 0} → Contract S A E → Contract (S × ((Option (ℕ × A) × Unit {0}) × Option (Option E))) (ℕ × A) E
-  dedup_with_count_contract m = plan_contract (bounded m) stop_comes (calls_function are_equal) count_plan count_stops 1 held_one (held_hint_plan held_one)
-
--- the source
-abbrev pub dedup_with_count_source : {I A E : Type 0} → DedupWithCount I A E → I
-dedup_with_count_source s = s.it
+  dedup_with_count_contract m = record (plan_contract (bounded m) stop_comes (calls_function are_equal) count_plan count_stops 1 held_one (held_hint_plan held_one) (held_sound m (λ held. held_hint (held_one held)))) { traces = DedupWithCountTrace m.traces }
 
 -- the source, the item that is held with its number, and the stop that is due
 abbrev pub dedup_with_count_parts : {I A E : Type 0} → DedupWithCount I A E → I × ((Option (ℕ × A) × Unit {0}) × Option (Option E))
@@ -34,7 +30,3 @@ dedup_with_count_parts s = (s.it, s.stage)
 -- and back
 pub dedup_with_count_made : {I A E : Type 0} → Inverse (dedup_with_count_parts {I = I} {A = A} {E = E})
 dedup_with_count_made = record { make = λ p. record { it = p.0; stage = p.1 }; made = λ s. refl; has = λ p. refl }
-
--- the stop that is due, if one is
-abbrev pub dedup_with_count_due : {I A E : Type 0} → DedupWithCount I A E → Option (Option E)
-dedup_with_count_due s = s.stage.1

@@ -8,7 +8,7 @@ use Rattle.fallible_iterator.specs.Traces.{Answered}
 use Rattle.fallible_iterator.specs.Contract.{Contract, Inverse}
 use Rattle.fallible_iterator.specs.Hints.{upper_alone}
 use Rattle.fallible_iterator.specs.Making.{IsRefusal}
-use Rattle.fallible_iterator.specs.Passing.{PassTrace, leaving_out_contract}
+use Rattle.fallible_iterator.specs.Passing.{passes_all, leaving_out_contract}
 use Rattle.fallible_itertools_adapters.specs.Outcomes.{as_answered_item}
 use Rattle.fallible_itertools_adapters.specs.Sieved.{sieved}
 use Rattle.std.specs.declared.alloc.AllocError.{AllocError}
@@ -16,6 +16,7 @@ use Rattle.fallible_iterator.specs.Outcome.{Outcome}
 use Rattle.fallible_iterator.specs.Outcome.TheVariants.{Kept, LeftOut, Failure, End}
 use Rattle.fallible_itertools_adapters.specs.declared.duplicates.Duplicates.{Duplicates}
 use Rattle.std.proofs.Common.{refl}
+use Rattle.fallible_iterator.specs.Sound.{above_as_source}
 
 -- the item is yielded, unless one that equals it was
 abbrev pub kept_unless : {A E : Type 0} → Bool → A → Outcome A E
@@ -40,12 +41,12 @@ module _ {A S E : Type 0} (eq : A → A → Bool) (from : AllocError → E → T
   duplicates_asks came x o more = come_by came x (get eq came x) o more
 
   -- `Duplicates`: of the source's trace the items that equal exactly one before them, where an item that equals none is replaced by the failure if the room for it couldn't be allocated; failures and ends part nothing.
-  abbrev pub DuplicatesTrace : {I : Type 0} → (I → Answered A E → I → Type 0) → I × HashMap A Bool S → List (Answered A E) → I × HashMap A Bool S → Type 0
-  DuplicatesTrace steps p trace q = PassTrace steps duplicates_asks as_answered_item p trace q
+  abbrev pub DuplicatesTrace : {I : Type 0} → (I → List (Answered A E) → I → Type 0) → I × HashMap A Bool S → List (Answered A E) → I × HashMap A Bool S → Type 0
+  DuplicatesTrace traces p trace q = passes_all traces duplicates_asks as_answered_item p trace q
 
   -- `Duplicates`' contract: its hint has the source's upper bound alone.
   abbrev pub duplicates_contract : {I : Type 0} → Contract I A E → Contract (I × HashMap A Bool S) A E
-  duplicates_contract m = leaving_out_contract m duplicates_asks (λ P came. ⊤) as_answered_item (λ p h. upper_alone m p.0 h)
+  duplicates_contract m = record (leaving_out_contract m duplicates_asks (λ P came. ⊤) as_answered_item (λ p h. upper_alone m p.0 h)) { traces = DuplicatesTrace m.traces; sound = above_as_source (λ p. p.0) m.sound }
 
 -- the source
 abbrev pub duplicates_source : {I A E : Type 0} → Duplicates I A E → I

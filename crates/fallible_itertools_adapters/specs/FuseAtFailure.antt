@@ -1,9 +1,10 @@
 -- `FuseAtFailure`, which is exhausted at the first failure.
 use Rattle.std.proofs.Common.{refl}
-use Rattle.std.specs.Prelude.{List, [], ◌∷◌, Result, Ok, Err, Bool, true, false}
-use Rattle.fallible_iterator.specs.Traces.{Answered, Run}
+use Rattle.std.specs.Prelude.{List, [], ◌∷◌, Result, Ok, Err, Bool, true, false, ◌≡◌}
+use Rattle.fallible_iterator.specs.Traces.{Answered}
 use Rattle.fallible_iterator.specs.Contract.{Contract, Inverse}
 use Rattle.fallible_iterator.specs.Closing.{ClosingTrace, closing_contract}
+use Rattle.fallible_iterator.specs.Sound.{as_source, sound_once}
 use Rattle.fallible_itertools_adapters.specs.declared.fuse_at_failure.FuseAtFailure.{FuseAtFailure}
 
 -- whether an answer is a failure
@@ -12,18 +13,12 @@ is_failure (Ok o) = false
 is_failure (Err e) = true
 
 -- `FuseAtFailure`: the source's trace, which the source's failure closes.
-pub record FuseAtFailureTrace {S A E : Type 0} (steps : S → Answered A E → S → Type 0) (p : S × Bool) (trace : List (Answered A E)) (q : S × Bool) : Type 0 where
-  pub source_trace : List (Answered A E)
-  pub drawn : Run steps p.0 source_trace q.0
-  pub cut : ClosingTrace (λ r. r) is_failure p.1 source_trace trace q.1
-
--- Its definition over all that its source returns.
-abbrev pub fuses_at_failure_all : {S A E : Type 0} → (S → List (Answered A E) → S → Type 0) → S × Bool → List (Answered A E) → S × Bool → Type 0
-fuses_at_failure_all {A = A} {E = E} traces p trace q = (l : List (Answered A E)) × traces p.0 l q.0 × ClosingTrace (λ r. r) is_failure p.1 l trace q.1
+abbrev pub FuseAtFailureTrace : {S A E : Type 0} → (S → List (Answered A E) → S → Type 0) → S × Bool → List (Answered A E) → S × Bool → Type 0
+FuseAtFailureTrace {A = A} {E = E} traces p trace q = (drawn : List (Answered A E)) × traces p.0 drawn q.0 × ClosingTrace (λ r. r) is_failure p.1 drawn trace q.1
 
 -- `FuseAtFailure`'s contract: that of its source but for the step and the hint, which the source's failure closes.
 abbrev pub fuse_at_failure_contract : {S A E : Type 0} → Contract S A E → Contract (S × Bool) A E
-fuse_at_failure_contract m = record (closing_contract m m.steps (λ r. r) is_failure) { traces = fuses_at_failure_all m.traces }
+fuse_at_failure_contract m = record (closing_contract m m.steps (λ r. r) is_failure) { traces = FuseAtFailureTrace m.traces; sound = sound_once (λ p. p.1 ≡ true) (as_source (λ p. p.0) m.sound) }
 
 -- the source
 abbrev pub fuse_at_failure_source : {I : Type 0} → FuseAtFailure I → I

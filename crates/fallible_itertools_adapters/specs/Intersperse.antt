@@ -11,6 +11,7 @@ use Rattle.fallible_itertools_adapters.specs.Staging.{StagedTrace, item_comes, e
 use Rattle.std.specs.declared.alloc.AllocError.{AllocError}
 use Rattle.fallible_itertools_adapters.specs.declared.intersperse.Intersperse.{Intersperse}
 use Rattle.std.proofs.Common.{refl}
+use Rattle.fallible_iterator.specs.Cutting.Take.{as_made}
 
 -- ---- what each item makes
 
@@ -65,7 +66,7 @@ module _ {A E : Type 0} (is_clone : A → A → Type 0) (is_infallible : A → T
 
   -- `Intersperse`'s contract: an item of the source is two to come.
   abbrev pub intersperse_contract : {S : Type 0} → Contract S A E → Contract (S × ((Bool × A) × Option A)) A E
-  intersperse_contract m = plan_contract m item_comes separator_cloned intersperse_plan passes 2 none_held intersperse_hint_plan
+  intersperse_contract m = record (plan_contract m item_comes separator_cloned intersperse_plan passes 2 none_held intersperse_hint_plan (as_made (λ p. p.0) m.hints m.sound (λ p. intersperse_hint p.1.0.0 p.1.1))) { traces = IntersperseTrace m.traces }
 
 -- the source
 abbrev pub intersperse_source : {I A E : Type 0} → Intersperse I A E → I

@@ -4,11 +4,12 @@ use Rattle.std.specs.Fn.{Mut}
 use Rattle.fallible_iterator.specs.Traces.{Answered}
 use Rattle.fallible_iterator.specs.Contract.{Contract, Inverse}
 use Rattle.fallible_iterator.specs.Sources.FromFn.{call_of_none}
-use Rattle.fallible_itertools_adapters.specs.Intersperse.{intersperse_hint_plan, intersperse_plan}
+use Rattle.fallible_itertools_adapters.specs.Intersperse.{intersperse_hint_plan, intersperse_plan, intersperse_hint}
 use Rattle.fallible_itertools_adapters.specs.Plan.{closure_contract, none_held, passes, plan_meets}
 use Rattle.fallible_itertools_adapters.specs.Staging.{StagedTrace, item_comes}
 use Rattle.fallible_itertools_adapters.specs.declared.intersperse_with.IntersperseWith.{IntersperseWith}
 use Rattle.std.proofs.Common.{refl}
+use Rattle.fallible_iterator.specs.Cutting.Take.{as_made}
 
 module _ {F A E : Type 0} (g : Mut F (Unit {0}) (Result A E)) where
   -- where the closure may be called
@@ -21,7 +22,7 @@ module _ {F A E : Type 0} (g : Mut F (Unit {0}) (Result A E)) where
 
   -- `IntersperseWith`'s contract: an item of the source is two to come. The closure may be called wherever items that may come bring it.
   abbrev pub intersperse_with_contract : {S : Type 0} → Contract S A E → Contract (S × ((Bool × F) × Option A)) A E
-  intersperse_with_contract m = closure_contract m item_comes (call_of_none g) takes_none intersperse_plan passes 2 none_held intersperse_hint_plan
+  intersperse_with_contract m = record (closure_contract m item_comes (call_of_none g) takes_none intersperse_plan passes 2 none_held intersperse_hint_plan (as_made (λ p. p.0) m.hints m.sound (λ p. intersperse_hint p.1.0.0 p.1.1))) { traces = IntersperseWithTrace m.traces }
 
 -- the source
 abbrev pub intersperse_with_source : {I A E F : Type 0} → IntersperseWith I F A E → I

@@ -1,7 +1,9 @@
 -- What follows from the definitions: the lemmas that ghost members cite.
 pub mod Ahead
+pub mod BeforeStop
 pub mod ChunkBy
 pub mod Chunks
+pub mod ChunksHints
 pub mod Coalesce
 pub mod Copied
 pub mod Dedup
@@ -17,14 +19,17 @@ pub mod OrElse
 pub mod PeekingTakeWhile
 pub mod PeekingTraces
 pub mod Plan
+pub mod PlanHints
 pub mod Positions
 pub mod RunCounts
 pub mod Staged
 pub mod Staging
+pub mod StagingHints
 pub mod StopAfter
 pub mod TakeWhileInclusive
 pub mod TupleWindows
 pub mod Tuples
 pub mod Unique
 pub mod UniqueBy
+pub mod WindowHints
 pub mod WithPosition

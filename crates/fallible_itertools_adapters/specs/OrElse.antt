@@ -1,10 +1,12 @@
 -- `OrElse`, by whose closure a failure becomes an item, nothing or another failure.
-use Rattle.std.specs.Prelude.{Option, Result, Ok, Err, List, [], ◌∷◌}
+use Rattle.std.specs.Prelude.{Option, Result, Ok, Err, List, [], ◌∷◌, map}
 use Rattle.std.specs.Fn.{Mut}
 use Rattle.fallible_iterator.specs.Traces.{Answered}
 use Rattle.fallible_iterator.specs.Contract.{Contract, Inverse}
 use Rattle.fallible_iterator.specs.Closures.{call_by_value, takes_by_value}
-use Rattle.fallible_iterator.specs.Failing.{RecoveringTrace, recovering_contract}
+use Rattle.fallible_iterator.specs.Exchange.{exchanged, traces_exchanged}
+use Rattle.fallible_iterator.specs.Failing.{outcome_exchanged, recovering_contract}
+use Rattle.fallible_iterator.specs.Passing.{passes_all}
 use Rattle.fallible_iterator.specs.Filtering.FilterMap.{filter_map_outcome, cons_some}
 use Rattle.fallible_iterator.specs.Listing.{ListsChanged}
 use Rattle.fallible_iterator.specs.Lists.{Acts}
@@ -17,12 +19,12 @@ abbrev pub or_else_outcome : {X D E : Type 0} → D → Result (Option X) E → 
 or_else_outcome d v = filter_map_outcome d v
 
 -- `OrElse`: the source's trace without the failures for which the closure returns `None`, where each other failure is replaced by the item or the failure that the closure returns for it; it doesn't end in a failure that is left out.
-abbrev pub OrElseTrace : {S F X D E : Type 0} → (S → Answered X D → S → Type 0) → Mut F (D × Unit {0}) (Result (Option X) E) → S × F → List (Answered X E) → S × F → Type 0
-OrElseTrace steps g p trace q = RecoveringTrace steps (call_by_value g) or_else_outcome p trace q
+abbrev pub OrElseTrace : {S F X D E : Type 0} → (S → List (Answered X D) → S → Type 0) → Mut F (D × Unit {0}) (Result (Option X) E) → S × F → List (Answered X E) → S × F → Type 0
+OrElseTrace traces g p trace q = passes_all (traces_exchanged traces) (call_by_value g) (λ d v. outcome_exchanged (or_else_outcome d v)) p (map exchanged trace) q
 
 -- `OrElse`'s contract: the source is finite and what remains of it has a bound, and the closure may be called on each failure that may come.
 abbrev pub or_else_contract : {S F X D E : Type 0} → Contract S X D → Mut F (D × Unit {0}) (Result (Option X) E) → Contract (S × F) X E
-or_else_contract m g = recovering_contract m (call_by_value g) (takes_by_value g) or_else_outcome
+or_else_contract m g = record (recovering_contract m (call_by_value g) (takes_by_value g) or_else_outcome) { traces = OrElseTrace m.traces g }
 
 -- the source
 abbrev pub or_else_source : {I F : Type 0} → OrElse I F → I

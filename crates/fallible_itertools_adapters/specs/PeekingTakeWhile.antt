@@ -11,7 +11,7 @@ use Rattle.fallible_iterator.specs.Passing.{Place, asked, failure_at, end_at, ca
 use Rattle.fallible_iterator.specs.Hints.{upper_alone}
 use Rattle.fallible_iterator.specs.Cutting.TakeWhile.{taken_answer, take_while_outcome}
 use Rattle.fallible_iterator.specs.Peeking.Peekable.{Peeks, peekable_parts}
-use Rattle.fallible_iterator.specs.Sound.{own_sound}
+use Rattle.fallible_iterator.specs.Sound.{above_as_source}
 use Rattle.fallible_iterator.specs.Peekable.{Peekable}
 use Rattle.fallible_itertools_adapters.specs.declared.peeking_take_while.PeekingTakeWhile.{PeekingTakeWhile}
 
@@ -108,7 +108,7 @@ peeking_step {X = X} {E = E} steps looks call p r q = (z : Place X (Result Bool 
 
 -- The contract: the closure may be called on each item that may come, and the hint has the source's upper bound alone.
 abbrev pub peeking_contract : {S F X E : Type 0} → Contract S X E → (S → X → S → Type 0) → Mut F (Bor X × Unit {0}) (Result Bool E) → Contract (S × F) X E
-peeking_contract m looks g = record (passing_contract m (call_by_reference g) (λ P f. IsCallable (call_by_reference g) (takes_by_reference g) P f) take_while_outcome (λ p h. upper_alone m p.0 h)) { steps = peeking_step m.steps looks (call_by_reference g); traces = PeekingTrace m.traces looks (call_by_reference g); sound = own_sound (peeking_step m.steps looks (call_by_reference g)) }
+peeking_contract m looks g = record (passing_contract m (call_by_reference g) (λ P f. IsCallable (call_by_reference g) (takes_by_reference g) P f) take_while_outcome (λ p h. upper_alone m p.0 h)) { steps = peeking_step m.steps looks (call_by_reference g); traces = PeekingTrace m.traces looks (call_by_reference g); sound = above_as_source (λ p. p.0) m.sound }
 
 -- the source
 abbrev pub peeking_source : {P F : Type 0} → PeekingTakeWhile P F → P

@@ -4,6 +4,7 @@ use Rattle.fallible_iterator.specs.Traces.{Answered}
 use Rattle.fallible_iterator.specs.Contract.{Contract}
 use Rattle.fallible_iterator.specs.Closures.{IsCallable}
 use Rattle.fallible_iterator.specs.Passing.{IfItem}
+use Rattle.fallible_iterator.specs.Sound.{SoundWhere}
 use Rattle.fallible_itertools_adapters.specs.Staging.{Emitted, one_emitted, stage_contract, stage_meets, stop_answer}
 
 -- what is emitted, and what is held then
@@ -76,10 +77,10 @@ plan_hint m hint p h = HintBy m p.0 (hint p.1.0.0 p.1.1) h
 abbrev pub bounded : {S A E : Type 0} → Contract S A E → Contract S A E
 bounded m = record m { can_next = λ s. m.is_finite s × m.can_next s }
 
--- The contract: at most `most` answers come of an item, and `held` are held. Its call may always be made; or it is a closure's.
+-- The contract: at most `most` answers come of an item, and `held` are held; `hint` says its hint, and `sound` where that is sound. Its call may always be made; or it is a closure's.
 module _ {S H F Q R X B L E : Type 0} (m : Contract S X E) (comes : L → Option (Answered B E)) (call : F → Q → R → F → Type 0) where
-  abbrev pub plan_contract : (H → X → Plan Q R (Transition H B L E)) → (H → Option E → Transition H B L E) → ℕ → (H → ℕ) → (H → Option L → HintPlan) → Contract (S × ((H × F) × Option L)) B E
-  plan_contract plan stops most held hint = stage_contract m comes (plan_meets call plan stops) (λ P p. ⊤) most (λ p. held p.0) (plan_hint m hint)
+  abbrev pub plan_contract : (H → X → Plan Q R (Transition H B L E)) → (H → Option E → Transition H B L E) → ℕ → (H → ℕ) → (H → Option L → HintPlan) → SoundWhere (S × ((H × F) × Option L)) → Contract (S × ((H × F) × Option L)) B E
+  plan_contract plan stops most held hint sound = stage_contract m comes (plan_meets call plan stops) (λ P p. ⊤) most (λ p. held p.0) (plan_hint m hint) sound
 
-  abbrev pub closure_contract : (F → Q → Type 0) → (H → X → Plan Q R (Transition H B L E)) → (H → Option E → Transition H B L E) → ℕ → (H → ℕ) → (H → Option L → HintPlan) → Contract (S × ((H × F) × Option L)) B E
-  closure_contract takes plan stops most held hint = stage_contract m comes (plan_meets call plan stops) (plan_can call plan stops takes) most (λ p. held p.0) (plan_hint m hint)
+  abbrev pub closure_contract : (F → Q → Type 0) → (H → X → Plan Q R (Transition H B L E)) → (H → Option E → Transition H B L E) → ℕ → (H → ℕ) → (H → Option L → HintPlan) → SoundWhere (S × ((H × F) × Option L)) → Contract (S × ((H × F) × Option L)) B E
+  closure_contract takes plan stops most held hint sound = stage_contract m comes (plan_meets call plan stops) (plan_can call plan stops takes) most (λ p. held p.0) (plan_hint m hint) sound

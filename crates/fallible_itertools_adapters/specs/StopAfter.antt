@@ -4,18 +4,15 @@ use Rattle.std.specs.Prelude.{◌≡◌, ℕ, zero, suc, ◌+◌, List, [], ◌�
 use Rattle.std.specs.Iterator.{at_most}
 use Rattle.fallible_iterator.specs.Traces.{Answered, end, items_in}
 use Rattle.fallible_iterator.specs.Contract.{Contract, AtMost, Inverse}
-use Rattle.fallible_iterator.specs.Exchange.{exchanged, steps_exchanged, traces_exchanged}
+use Rattle.fallible_iterator.specs.Exchange.{exchanged, traces_exchanged}
 use Rattle.fallible_iterator.specs.WithSteps.{with_steps_contract}
-use Rattle.fallible_iterator.specs.Cutting.Take.{TakeTrace, takes_all}
+use Rattle.fallible_iterator.specs.Cutting.Take.{takes_all}
+use Rattle.fallible_iterator.specs.Sound.{as_source, sound_once}
 use Rattle.fallible_itertools_adapters.specs.declared.stop_after.StopAfter.{StopAfter}
 
 -- `StopAfter` at n: the source's trace until it has n failures, and then ends without draws. With items and failures exchanged it is that of `Take` at n. The parts are the source, how many failures are still to come, and a bound of the items, which is less by those of the trace.
-abbrev pub StopAfterTrace : {S A E : Type 0} → (S → Answered A E → S → Type 0) → S × (ℕ × ℕ) → List (Answered A E) → S × (ℕ × ℕ) → Type 0
-StopAfterTrace steps p trace q = TakeTrace (steps_exchanged steps) (p.0, p.1.0) (map exchanged trace) (q.0, q.1.0) × (q.1.1 + items_in trace ≡ p.1.1)
-
--- Its definition over all that its source returns.
-abbrev pub stops_after_all : {S A E : Type 0} → (S → List (Answered A E) → S → Type 0) → S × (ℕ × ℕ) → List (Answered A E) → S × (ℕ × ℕ) → Type 0
-stops_after_all traces p trace q = takes_all (traces_exchanged traces) (p.0, p.1.0) (map exchanged trace) (q.0, q.1.0) × (q.1.1 + items_in trace ≡ p.1.1)
+abbrev pub StopAfterTrace : {S A E : Type 0} → (S → List (Answered A E) → S → Type 0) → S × (ℕ × ℕ) → List (Answered A E) → S × (ℕ × ℕ) → Type 0
+StopAfterTrace traces p trace q = takes_all (traces_exchanged traces) (p.0, p.1.0) (map exchanged trace) (q.0, q.1.0) × (q.1.1 + items_in trace ≡ p.1.1)
 
 -- One answer: an end without a draw if no failure is still to come, and otherwise the source's answer, of which a failure leaves one failure less, and an item one item less.
 abbrev pub stop_after_step : {S A E : Type 0} → (S → Answered A E → S → Type 0) → S × (ℕ × ℕ) → Answered A E → S × (ℕ × ℕ) → Type 0
@@ -32,7 +29,8 @@ abbrev pub stop_after_contract : {S A E : Type 0} → Contract S A E → Contrac
 stop_after_contract m = record (with_steps_contract m (stop_after_step m.steps) (stop_after_hints m)) {
   can_next = λ p. m.can_next p.0 × AtMost m p.0 p.1.1;
   remaining = λ p. at_most (p.1.0 + p.1.1);
-  traces = stops_after_all m.traces;
+  traces = StopAfterTrace m.traces;
+  sound = sound_once (λ p. p.1.0 ≡ 0) (as_source (λ p. p.0) m.sound);
 }
 
 -- the source

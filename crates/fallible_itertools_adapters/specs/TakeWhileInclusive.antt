@@ -1,5 +1,5 @@
 -- `TakeWhileInclusive`, which is exhausted after the first item that a predicate rejects.
-use Rattle.std.specs.Prelude.{ℕ, min, is_some, Bool, true, false, Option, Some, None, Result, Ok, Err, List}
+use Rattle.std.specs.Prelude.{ℕ, min, Bool, true, false, Option, Some, None, Result, Ok, Err, List, IsSome}
 use Rattle.std.specs.Fn.{Mut}
 use Rattle.std.specs.Borrow.{Bor}
 use Rattle.fallible_iterator.specs.Traces.{Answered, item, failure}
@@ -10,6 +10,8 @@ use Rattle.fallible_itertools_adapters.specs.Staged.{as_function, plan_does, sta
 use Rattle.fallible_itertools_adapters.specs.Staging.{StagedTrace, ends_come, emitted_then, one_emitted}
 use Rattle.fallible_itertools_adapters.specs.declared.take_while_inclusive.TakeWhileInclusive.{TakeWhileInclusive}
 use Rattle.std.proofs.Common.{refl}
+use Rattle.fallible_iterator.specs.Cutting.Take.{as_made}
+use Rattle.fallible_iterator.specs.Sound.{sound_once}
 
 -- The item, and after one that the predicate rejects ends come; or the predicate's failure on it.
 abbrev pub inclusive_by : {A E : Type 0} → A → Result Bool E → Transition (Unit {0}) A (Unit {0}) E
@@ -36,15 +38,11 @@ InclusiveTrace g traces p trace q = StagedTrace traces ends_come (plan_meets (ca
 
 -- `TakeWhileInclusive`'s contract: the predicate may be called on each item that may come.
 abbrev pub inclusive_contract : {S F A E : Type 0} → Mut F (Bor A × Unit {0}) (Result Bool E) → Contract S A E → Contract (S × ((Unit {0} × F) × Option (Unit {0}))) A E
-inclusive_contract g m = closure_contract m ends_come (call_by_reference g) (takes_by_reference g) inclusive_plan passes 1 none_held inclusive_hint_plan
+inclusive_contract g m = record (closure_contract m ends_come (call_by_reference g) (takes_by_reference g) inclusive_plan passes 1 none_held inclusive_hint_plan (sound_once (λ p. IsSome p.1.1) (as_made (λ p. p.0) m.hints m.sound (λ p. hint_of_first)))) { traces = InclusiveTrace g m.traces }
 
 -- the source
 abbrev pub inclusive_source : {I P : Type 0} → TakeWhileInclusive I P → I
 inclusive_source s = s.it
-
--- whether an item was rejected
-abbrev pub inclusive_refused : {I P : Type 0} → TakeWhileInclusive I P → Bool
-inclusive_refused s = is_some s.stage.1
 
 -- the source, the predicate, and whether ends are due
 abbrev pub inclusive_parts : {I P : Type 0} → TakeWhileInclusive I P → I × ((Unit {0} × P) × Option (Unit {0}))

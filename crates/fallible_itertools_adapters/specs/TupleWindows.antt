@@ -4,13 +4,14 @@ use Rattle.fallible_iterator.specs.Traces.{Answered}
 use Rattle.fallible_iterator.specs.Contract.{Contract, Inverse}
 use Rattle.fallible_iterator.specs.Hints.{hint_less}
 use Rattle.fallible_iterator.specs.Refusals.{RefusedAs}
-use Rattle.fallible_iterator.specs.Passing.{PassTrace, passing_contract}
+use Rattle.fallible_iterator.specs.Passing.{passes_all, passing_contract}
 use Rattle.fallible_itertools_adapters.specs.Outcomes.{as_answered_item}
 use Rattle.std.specs.declared.alloc.AllocError.{AllocError}
 use Rattle.fallible_iterator.specs.Outcome.{Outcome}
 use Rattle.fallible_iterator.specs.Outcome.TheVariants.{Kept, LeftOut, Failure, End}
 use Rattle.fallible_itertools_adapters.specs.declared.tuple_windows.TupleWindows.{TupleWindows}
 use Rattle.std.proofs.Common.{refl}
+use Rattle.fallible_iterator.specs.Cutting.Take.{as_made}
 
 module _ {A E : Type 0} (is_clone : A → A → Type 0) (is_infallible : A → Type 0) (from : AllocError → E → Type 0) where
   -- an item beside the one before it: both are yielded, the later one as a clone; if that fails to allocate, the failure converted from its `AllocError` is, and the earlier one is lost. The later one is held then.
@@ -26,8 +27,8 @@ module _ {A E : Type 0} (is_clone : A → A → Type 0) (is_infallible : A → T
   windows_asks (Some y) x o q = window_at y x o q
 
   -- `TupleWindows`: the source's trace where each item but the first is replaced by the pair of the one before it and itself; failures and ends between two part nothing.
-  abbrev pub TupleWindowsTrace : {S : Type 0} → (S → Answered A E → S → Type 0) → S × Option A → List (Answered (A × A) E) → S × Option A → Type 0
-  TupleWindowsTrace steps p trace q = PassTrace steps windows_asks as_answered_item p trace q
+  abbrev pub TupleWindowsTrace : {S : Type 0} → (S → List (Answered A E) → S → Type 0) → S × Option A → List (Answered (A × A) E) → S × Option A → Type 0
+  TupleWindowsTrace traces p trace q = passes_all traces windows_asks as_answered_item p trace q
 
   -- how many items come before the next pair
   abbrev pub items_lacking : Option A → ℕ
@@ -36,7 +37,7 @@ module _ {A E : Type 0} (is_clone : A → A → Type 0) (is_infallible : A → T
 
   -- `TupleWindows`' contract. It requires no bound of the source: one draw leaves out one item at most.
   abbrev pub tuple_windows_contract : {S : Type 0} → Contract S A E → Contract (S × Option A) (A × A) E
-  tuple_windows_contract m = passing_contract m windows_asks (λ Q p. ⊤) as_answered_item (λ p h. (k : ℕ × Option ℕ) × m.hints p.0 k × (h ≡ hint_less (items_lacking p.1) k))
+  tuple_windows_contract m = record (passing_contract m windows_asks (λ Q p. ⊤) as_answered_item (λ p h. (k : ℕ × Option ℕ) × m.hints p.0 k × (h ≡ hint_less (items_lacking p.1) k))) { traces = TupleWindowsTrace m.traces; sound = as_made (λ p. p.0) m.hints m.sound (λ p k. hint_less (items_lacking p.1) k) }
 
 -- the source
 abbrev pub tuple_windows_source : {I A E : Type 0} → TupleWindows I A E → I

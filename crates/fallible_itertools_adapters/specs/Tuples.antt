@@ -3,12 +3,13 @@ use Rattle.std.specs.Prelude.{◌≡◌, ℕ, Option, Some, None, Result, Ok, Er
 use Rattle.fallible_iterator.specs.Traces.{Answered}
 use Rattle.fallible_iterator.specs.Contract.{Contract, Inverse}
 use Rattle.fallible_iterator.specs.Hints.{hint_kept}
-use Rattle.fallible_iterator.specs.Passing.{PassTrace, passing_contract}
+use Rattle.fallible_iterator.specs.Passing.{passes_all, passing_contract}
 use Rattle.fallible_itertools_adapters.specs.Outcomes.{as_answered_item}
 use Rattle.fallible_iterator.specs.Outcome.{Outcome}
 use Rattle.fallible_iterator.specs.Outcome.TheVariants.{Kept, LeftOut}
 use Rattle.fallible_itertools_adapters.specs.declared.tuples.Tuples.{Tuples}
 use Rattle.std.proofs.Common.{refl}
+use Rattle.fallible_iterator.specs.Cutting.Take.{as_made}
 
 module _ {A E : Type 0} where
   -- The first item of a pair is left out, and held then. The next one is yielded beside it, and none is held then.
@@ -17,8 +18,8 @@ module _ {A E : Type 0} where
   tuples_asks (Some y) x o q = (o ≡ Kept (y, x)) × (q ≡ None)
 
   -- `Tuples`: the source's trace where each second item is replaced by the pair of the one before it and itself, and the others are left out; failures and ends between two part nothing.
-  abbrev pub TuplesTrace : {S : Type 0} → (S → Answered A E → S → Type 0) → S × Option A → List (Answered (A × A) E) → S × Option A → Type 0
-  TuplesTrace steps p trace q = PassTrace steps tuples_asks as_answered_item p trace q
+  abbrev pub TuplesTrace : {S : Type 0} → (S → List (Answered A E) → S → Type 0) → S × Option A → List (Answered (A × A) E) → S × Option A → Type 0
+  TuplesTrace traces p trace q = passes_all traces tuples_asks as_answered_item p trace q
 
 -- how many items come before the one that completes a pair
 abbrev pub items_before_pair : {A : Type 0} → Option A → ℕ
@@ -27,7 +28,7 @@ items_before_pair (Some y) = 0
 
 -- `Tuples`' contract: of the items of the source every second one counts in the hint. It requires no bound of the source: one draw leaves out one item at most.
 abbrev pub tuples_contract : {S A E : Type 0} → Contract S A E → Contract (S × Option A) (A × A) E
-tuples_contract m = passing_contract m tuples_asks (λ Q p. ⊤) as_answered_item (λ p h. (k : ℕ × Option ℕ) × m.hints p.0 k × (h ≡ hint_kept 1 (items_before_pair p.1) k))
+tuples_contract m = record (passing_contract m tuples_asks (λ Q p. ⊤) as_answered_item (λ p h. (k : ℕ × Option ℕ) × m.hints p.0 k × (h ≡ hint_kept 1 (items_before_pair p.1) k))) { traces = TuplesTrace m.traces; sound = as_made (λ p. p.0) m.hints m.sound (λ p k. hint_kept 1 (items_before_pair p.1) k) }
 
 -- the source
 abbrev pub tuples_source : {I A E : Type 0} → Tuples I A E → I

@@ -7,7 +7,7 @@ use Rattle.fallible_iterator.specs.Traces.{Answered}
 use Rattle.fallible_iterator.specs.Contract.{Contract, Inverse}
 use Rattle.fallible_iterator.specs.Hints.{upper_alone}
 use Rattle.fallible_iterator.specs.Making.{IsRefusal}
-use Rattle.fallible_iterator.specs.Passing.{PassTrace, leaving_out_contract}
+use Rattle.fallible_iterator.specs.Passing.{passes_all, leaving_out_contract}
 use Rattle.fallible_itertools_adapters.specs.Outcomes.{as_answered_item}
 use Rattle.fallible_itertools_adapters.specs.UniqueBy.{unique_by_key}
 use Rattle.std.specs.declared.alloc.AllocError.{AllocError}
@@ -15,6 +15,7 @@ use Rattle.fallible_iterator.specs.Outcome.{Outcome}
 use Rattle.fallible_iterator.specs.Outcome.TheVariants.{Kept, LeftOut, Failure, End}
 use Rattle.fallible_itertools_adapters.specs.declared.unique.Unique.{Unique}
 use Rattle.std.proofs.Common.{refl}
+use Rattle.fallible_iterator.specs.Sound.{above_as_source}
 
 module _ {A S E : Type 0} (eq : A → A → Bool) (is_clone : A → A → Type 0) (is_infallible : A → Type 0) (from : AllocError → E → Type 0) where
   -- an allocation may fail: that of a clone of the item, or that of room for it in the set
@@ -38,12 +39,12 @@ module _ {A S E : Type 0} (eq : A → A → Bool) (is_clone : A → A → Type 0
   unique_asks seen x o more = unique_by seen x (contains eq seen x) o more
 
   -- `Unique`: the source's trace without the items that equal one before them, where an item whose clone, or the room for it, couldn't be allocated is replaced by the failure; failures and ends part nothing.
-  abbrev pub UniqueTrace : {I : Type 0} → (I → Answered A E → I → Type 0) → I × HashSet A S → List (Answered A E) → I × HashSet A S → Type 0
-  UniqueTrace steps p trace q = PassTrace steps unique_asks as_answered_item p trace q
+  abbrev pub UniqueTrace : {I : Type 0} → (I → List (Answered A E) → I → Type 0) → I × HashSet A S → List (Answered A E) → I × HashSet A S → Type 0
+  UniqueTrace traces p trace q = passes_all traces unique_asks as_answered_item p trace q
 
   -- `Unique`'s contract: its hint has the source's upper bound alone.
   abbrev pub unique_contract : {I : Type 0} → Contract I A E → Contract (I × HashSet A S) A E
-  unique_contract m = leaving_out_contract m unique_asks (λ P seen. ⊤) as_answered_item (λ p h. upper_alone m p.0 h)
+  unique_contract m = record (leaving_out_contract m unique_asks (λ P seen. ⊤) as_answered_item (λ p h. upper_alone m p.0 h)) { traces = UniqueTrace m.traces; sound = above_as_source (λ p. p.0) m.sound }
 
 -- the source
 abbrev pub unique_source : {I A E : Type 0} → Unique I A E → I

@@ -11,7 +11,7 @@ use Rattle.fallible_iterator.specs.Contract.{Contract, Inverse}
 use Rattle.fallible_iterator.specs.Closures.{IsCallable, call_by_reference, takes_by_reference}
 use Rattle.fallible_iterator.specs.Hints.{upper_alone}
 use Rattle.fallible_iterator.specs.Making.{IsRefusal}
-use Rattle.fallible_iterator.specs.Passing.{PassTrace, leaving_out_contract}
+use Rattle.fallible_iterator.specs.Passing.{passes_all, leaving_out_contract}
 use Rattle.fallible_itertools_adapters.specs.Outcomes.{as_answered_item}
 use Rattle.fallible_itertools_adapters.specs.Sieved.{sieved}
 use Rattle.std.specs.declared.alloc.AllocError.{AllocError}
@@ -19,6 +19,7 @@ use Rattle.fallible_iterator.specs.Outcome.{Outcome}
 use Rattle.fallible_iterator.specs.Outcome.TheVariants.{Kept, LeftOut, Failure, End}
 use Rattle.fallible_itertools_adapters.specs.declared.unique_by.UniqueBy.{UniqueBy}
 use Rattle.std.proofs.Common.{refl}
+use Rattle.fallible_iterator.specs.Sound.{above_as_source}
 
 module _ {A K S E : Type 0} (eq : K → K → Bool) (from : AllocError → E → Type 0) where
   -- An item whose key equals none of the set's is yielded, and the set has the key then. If the set has no room that is spare, the allocation of it may fail: then the item is lost, and the set stays.
@@ -44,8 +45,8 @@ module _ {A K S E : Type 0} (eq : K → K → Bool) (from : AllocError → E →
     key_asks p x o q = (v : Result K E) × call p.1 x v q.1 × keyed_by p.0 x v o q.0
 
     -- `UniqueBy`: the source's trace without the items whose keys equal one before them. The closure's failure is in the place of the item that it failed on. Where room for a key couldn't be allocated, that failure is in the item's place; failures and ends part nothing.
-    abbrev pub UniqueByTrace : {I : Type 0} → (I → Answered A E → I → Type 0) → I × (HashSet K S × F) → List (Answered A E) → I × (HashSet K S × F) → Type 0
-    UniqueByTrace steps p trace q = PassTrace steps key_asks as_answered_item p trace q
+    abbrev pub UniqueByTrace : {I : Type 0} → (I → List (Answered A E) → I → Type 0) → I × (HashSet K S × F) → List (Answered A E) → I × (HashSet K S × F) → Type 0
+    UniqueByTrace traces p trace q = passes_all traces key_asks as_answered_item p trace q
 
 -- the closure may be called on a reference to the item
 abbrev pub key_takes : {A H F : Type 0} → (F → A → Type 0) → H × F → A → Type 0
@@ -57,7 +58,7 @@ key_callable g P p = IsCallable (call_by_reference g) (takes_by_reference g) P p
 
 -- `UniqueBy`'s contract: its hint has the source's upper bound alone.
 abbrev pub unique_by_contract : {I A K S F E : Type 0} → (K → K → Bool) → (AllocError → E → Type 0) → Contract I A E → Mut F (Bor A × Unit {0}) (Result K E) → Contract (I × (HashSet K S × F)) A E
-unique_by_contract eq from m g = leaving_out_contract m (key_asks eq from (call_by_reference g)) (key_callable g) as_answered_item (λ p h. upper_alone m p.0 h)
+unique_by_contract eq from m g = record (leaving_out_contract m (key_asks eq from (call_by_reference g)) (key_callable g) as_answered_item (λ p h. upper_alone m p.0 h)) { traces = UniqueByTrace eq from (call_by_reference g) m.traces; sound = above_as_source (λ p. p.0) m.sound }
 
 -- the source
 abbrev pub unique_by_source : {I K F : Type 0} → UniqueBy I K F → I

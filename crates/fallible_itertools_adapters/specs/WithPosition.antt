@@ -1,9 +1,9 @@
 -- `WithPosition`, which yields each item with its position among the items between two stops.
-use Rattle.std.specs.Prelude.{Bool, true, false, Option, Some, None, Result, List}
+use Rattle.std.specs.Prelude.{Bool, true, false, Option, Some, None, Result, List, ℕ}
 use Rattle.fallible_iterator.specs.Traces.{Answered, item}
 use Rattle.fallible_iterator.specs.Contract.{Contract, Inverse}
 use Rattle.fallible_iterator.specs.Hints.{hint_sum}
-use Rattle.fallible_itertools_adapters.specs.BeforeStop.{before_stop, held_one, hint_unless_end}
+use Rattle.fallible_itertools_adapters.specs.BeforeStop.{before_stop, held_one, hint_unless_end, held_sound}
 use Rattle.fallible_itertools_adapters.specs.Plan.{HintPlan, Transition, Plan, calls, calls_nothing, makes, plan_contract, plan_meets}
 use Rattle.fallible_itertools_adapters.specs.Staged.{as_function, plan_does, staged}
 use Rattle.fallible_itertools_adapters.specs.Staging.{StagedTrace, one_emitted, stop_comes}
@@ -36,9 +36,13 @@ positioned_last None = None
 abbrev pub position_stops : {A E : Type 0} → Option (Bool × A) → Option E → Transition (Option (Bool × A)) (Position × A) (Option E) E
 position_stops held stop = (before_stop (positioned_last held) stop, None)
 
--- None if an end is due, and otherwise the source's hint and the item that is held, since every item is yielded.
+-- the source's hint and the item that is held, since every item is yielded
+abbrev pub position_hint : {A : Type 0} → Option (Bool × A) → ℕ × Option ℕ → ℕ × Option ℕ
+position_hint held k = hint_sum k (held_one held, Some (held_one held))
+
+-- it is none if an end is due
 abbrev pub position_hint_plan : {A E : Type 0} → Option (Bool × A) → Option (Option E) → HintPlan
-position_hint_plan held due = hint_unless_end (calls tt (λ k. hint_sum k (held_one held, Some (held_one held)))) due
+position_hint_plan held due = hint_unless_end (calls tt (position_hint held)) due
 
 -- `WithPosition`: each item with its position, where the next item stands or a stop.
 abbrev pub WithPositionTrace : {S A E : Type 0} → (S → List (Answered A E) → S → Type 0) → S × ((Option (Bool × A) × Unit {0}) × Option (Option E)) → List (Answered (Position × A) E) → S × ((Option (Bool × A) × Unit {0}) × Option (Option E)) → Type 0
@@ -46,15 +50,11 @@ WithPositionTrace traces p trace q = StagedTrace traces stop_comes (plan_meets c
 
 -- `WithPosition`'s contract. It requires no bound of the source: one draw leaves out one item at most.
 abbrev pub with_position_contract : {S A E : Type 0} → Contract S A E → Contract (S × ((Option (Bool × A) × Unit {0}) × Option (Option E))) (Position × A) E
-with_position_contract m = plan_contract m stop_comes calls_nothing position_plan position_stops 1 held_one position_hint_plan
+with_position_contract m = record (plan_contract m stop_comes calls_nothing position_plan position_stops 1 held_one position_hint_plan (held_sound m position_hint)) { traces = WithPositionTrace m.traces }
 
 -- each item with its position among the items there; a failure parts them
 unfoldable pub positioned : {A E : Type 0} → List (Result A E) → List (Result (Position × A) E)
 positioned l = staged stop_comes (plan_does (as_function (λ u. u)) position_plan position_stops) (None, tt) l
-
--- the source
-abbrev pub with_position_source : {I A E : Type 0} → WithPosition I A E → I
-with_position_source s = s.it
 
 -- the source, the item that is held with whether one came before it, and the stop that is due
 abbrev pub with_position_parts : {I A E : Type 0} → WithPosition I A E → I × ((Option (Bool × A) × Unit {0}) × Option (Option E))
@@ -63,7 +63,3 @@ with_position_parts s = (s.it, s.stage)
 -- and back
 pub with_position_made : {I A E : Type 0} → Inverse (with_position_parts {I = I} {A = A} {E = E})
 with_position_made = record { make = λ p. record { it = p.0; stage = p.1 }; made = λ s. refl; has = λ p. refl }
-
--- the stop that is due, if one is
-abbrev pub with_position_due : {I A E : Type 0} → WithPosition I A E → Option (Option E)
-with_position_due s = s.stage.1

@@ -12,12 +12,12 @@ use Rattle.fallible_iterator.specs.Lists.{Acts, Lists}
 use Rattle.fallible_iterator.specs.Making.{ListsMade}
 use Rattle.fallible_iterator.proofs.Lemmas.Making.{lists_made_seen}
 use Rattle.fallible_itertools_adapters.specs.Batch.{Grown, NoRoom, Put, Puts}
-use Rattle.fallible_itertools_adapters.specs.BeforeStop.{HintsWhereHeld, before_stop, held_one}
-use Rattle.fallible_itertools_adapters.specs.ChunkBy.{Group, KeyedPut, MadeGroup, chunk_by_contract, chunk_by_due, chunk_by_parts, chunk_by_plan, chunk_by_source, chunk_by_stops, chunked_by, group_at, group_by, group_kept, items_of_key, put_by_key, puts_by_key, takes_key}
+use Rattle.fallible_itertools_adapters.specs.BeforeStop.{before_stop, held_one}
+use Rattle.fallible_itertools_adapters.specs.ChunkBy.{Group, KeyedPut, MadeGroup, chunk_by_contract, chunk_by_parts, chunk_by_plan, chunk_by_stops, chunked_by, group_at, group_by, group_kept, items_of_key, put_by_key, puts_by_key, takes_key}
 use Rattle.fallible_itertools_adapters.specs.Laws.ChunkBy.{group_by_buffers}
 use Rattle.fallible_itertools_adapters.specs.Plan.{IsTransition, Transition, plan_can}
 use Rattle.fallible_itertools_adapters.specs.Staging.{Emitted, MayMeet, one_emitted}
-use Rattle.fallible_itertools_adapters.proofs.Lemmas.BeforeStop.{end_before_stop, hints_where_one_held, parted_by_failure}
+use Rattle.fallible_itertools_adapters.proofs.Lemmas.BeforeStop.{end_before_stop, parted_by_failure}
 use Rattle.fallible_itertools_adapters.proofs.Lemmas.ChunkedBy.{group_by_is_made, group_made, grouped_from_is_never_nil}
 use Rattle.fallible_itertools_adapters.proofs.Lemmas.Plan.{plan_can_where_callable}
 use Rattle.fallible_itertools_adapters.proofs.Lemmas.StagedMade.{HeldMade, MadeAlike, PlansAlike, RefusalAfterHeld, before_stop_made, gives_made_plan}
@@ -102,12 +102,9 @@ unfolding chunked_by
 lists_up_to_refusal_chunked {E = E} {it = it} m from eq c f h acts s l parts i = lists_made_seen MadeGroup from chunk_by_parts (chunk_by_contract from eq c m).steps s _ _ _ parts refl
     (gives_made_plan (puts_by_key from eq c) (chunk_by_plan eq) chunk_by_stops (put_of from eq c f h) (chunk_by_plan eq) chunk_by_stops MadeGroup from f (HeldAlike from eq c f h) (plans_alike from eq c f h acts) (stops_alike from eq c f h) m.steps (λ y. ((y.0, vec_items y.1), (refl, refl))) (λ a. end_before_stop E a) (λ a y l is. grouped_from_is_never_nil eq h a y l is) l it None None tt i.runs)
 
--- ---- its hint, and where it may be called
+-- ---- where it may be called
 
 module _ {S F A K E : Type 0} (m : Contract S A E) (from : AllocError → E → Type 0) (eq : K → K → Bool) (g : Mut F (Bor A × Unit {0}) (Result K E)) where
-  pub hints_chunk_by : HintsWhereHeld (parts_as chunk_by_parts (chunk_by_contract from eq g m)) chunk_by_due m chunk_by_source
-  hints_chunk_by = hints_where_one_held E (λ held. held) (λ held. None) held_one (λ held. refl) (puts_by_key from eq g) (chunk_by_plan eq) (λ held x v. group_by_buffers E eq held v) chunk_by_parts m (plan_can (puts_by_key from eq g) (chunk_by_plan eq) chunk_by_stops (takes_key g)) 1
-
   key_called : (f h : F) (q : Option (Group K A) × A) (v : KeyedPut K (Vec A Global) E) → puts_by_key from eq g f q v h → (r : Result K E) × call_by_reference g f q.1 r h
   key_called f h q (Ok (k, put)) w = (Ok k, w.0)
   key_called f h q (Err e) w = (Err e, w)

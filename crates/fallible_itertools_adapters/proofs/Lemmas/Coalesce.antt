@@ -1,5 +1,5 @@
--- What `Coalesce` lists, and its hint.
-use Rattle.std.specs.Prelude.{◌≡◌, ⊤, Option, Some, None, Result, Ok, Err, List, [], ◌∷◌, ◌++◌}
+-- What `Coalesce` lists.
+use Rattle.std.specs.Prelude.{◌≡◌, ⊤, Option, Some, None, Result, Ok, Err, List, ◌∷◌, ◌++◌}
 use Rattle.std.specs.Fn.{Mut}
 use Rattle.std.proofs.Common.{refl, subst}
 use Rattle.fallible_iterator.specs.Contract.{Contract, parts_as}
@@ -7,14 +7,14 @@ use Rattle.fallible_iterator.specs.Folds.{call_with}
 use Rattle.fallible_iterator.specs.Lists.{ActsWith, Lists}
 use Rattle.fallible_iterator.proofs.Lemmas.Lists.Passing.{lists_seen}
 use Rattle.fallible_itertools_adapters.specs.Adjacent.{AdjacentItems}
-use Rattle.fallible_itertools_adapters.specs.BeforeStop.{HintsWhereHeld, held_one}
-use Rattle.fallible_itertools_adapters.specs.Coalesce.{KeepsApart, OneOrBoth, coalesce_call, coalesce_contract, coalesce_due, coalesce_parts, coalesce_plan, coalesce_source, coalesce_takes, coalesced, coalesced_by}
+use Rattle.fallible_itertools_adapters.specs.BeforeStop.{held_one}
+use Rattle.fallible_itertools_adapters.specs.Coalesce.{KeepsApart, OneOrBoth, coalesce_call, coalesce_contract, coalesce_parts, coalesce_plan, coalesced, coalesced_by}
 use Rattle.fallible_itertools_adapters.specs.Dedup.{dedup_stops}
 use Rattle.fallible_itertools_adapters.specs.Laws.Coalesce.{coalesce_plan_buffers}
-use Rattle.fallible_itertools_adapters.specs.Plan.{Transition, plan_can}
+use Rattle.fallible_itertools_adapters.specs.Plan.{Transition}
 use Rattle.fallible_itertools_adapters.specs.Staged.{as_function, followed}
 use Rattle.fallible_itertools_adapters.specs.Staging.{stop_comes}
-use Rattle.fallible_itertools_adapters.proofs.Lemmas.BeforeStop.{Apart, adjacent_items_apart, end_before_stop, hints_where_one_held, parted_by_failure}
+use Rattle.fallible_itertools_adapters.proofs.Lemmas.BeforeStop.{Apart, adjacent_items_apart, end_before_stop, parted_by_failure}
 use Rattle.fallible_itertools_adapters.proofs.Lemmas.Staged.{gives_plan}
 use Rattle.fallible_itertools_adapters.specs.declared.coalesce.Coalesce.{Coalesce}
 
@@ -55,8 +55,3 @@ pub lists_coalesced : {S A F E : Type 0} {it : S} (m : Contract S A E) (g : Mut 
     → Lists (parts_as coalesce_parts (coalesce_contract g m)).steps s (coalesced h l)
 unfolding coalesced
 lists_coalesced {E = E} {it = it} m g s f h l parts acts i = lists_seen coalesce_parts (coalesce_contract g m).steps s parts refl (gives_plan m.steps stop_comes (coalesce_call g) coalesce_plan dedup_stops (as_function (on_both h)) (λ p z. p ≡ f) (λ p z both v k is called. let d = acts both.0 both.1 v k (subst (λ c. coalesce_call g c both v k) is called) in (d.1, d.0)) (end_before_stop E) l it None f tt refl i.runs)
-
--- ---- its hint
-
-pub hints_coalesce : {S A F E : Type 0} (m : Contract S A E) (g : Mut F (A × (A × Unit {0})) (OneOrBoth A E)) → HintsWhereHeld (parts_as coalesce_parts (coalesce_contract g m)) coalesce_due m coalesce_source
-hints_coalesce {E = E} m g = hints_where_one_held E (λ held. held) (λ held. None) held_one (λ held. refl) (coalesce_call g) coalesce_plan (coalesce_plan_buffers E) coalesce_parts m (plan_can (coalesce_call g) coalesce_plan dedup_stops (coalesce_takes g)) 1

@@ -1,17 +1,17 @@
--- What `Dedup` lists, and its hint.
-use Rattle.std.specs.Prelude.{◌≡◌, ⊤, Bool, true, false, Option, Some, None, Result, Ok, Err, List, [], ◌∷◌, ◌++◌}
+-- What `Dedup` lists.
+use Rattle.std.specs.Prelude.{◌≡◌, ⊤, Bool, true, false, Option, Some, None, Result, Err, List, ◌∷◌, ◌++◌}
 use Rattle.std.proofs.Common.{refl}
 use Rattle.fallible_iterator.specs.Contract.{Contract, parts_as}
 use Rattle.fallible_iterator.specs.Lists.{Lists}
 use Rattle.fallible_iterator.proofs.Lemmas.Lists.Passing.{lists_seen}
 use Rattle.fallible_itertools_adapters.specs.Adjacent.{AdjacentItems}
-use Rattle.fallible_itertools_adapters.specs.BeforeStop.{HintsWhereHeld, held_one}
-use Rattle.fallible_itertools_adapters.specs.Dedup.{dedup_contract, dedup_due, dedup_parts, dedup_plan, dedup_source, dedup_stops, deduped, unless_same}
+use Rattle.fallible_itertools_adapters.specs.BeforeStop.{held_one}
+use Rattle.fallible_itertools_adapters.specs.Dedup.{dedup_contract, dedup_parts, dedup_plan, dedup_stops, deduped, unless_same}
 use Rattle.fallible_itertools_adapters.specs.Laws.Dedup.{dedup_plan_buffers}
 use Rattle.fallible_itertools_adapters.specs.Plan.{Transition, calls_nothing}
 use Rattle.fallible_itertools_adapters.specs.Staged.{as_function, followed}
 use Rattle.fallible_itertools_adapters.specs.Staging.{stop_comes}
-use Rattle.fallible_itertools_adapters.proofs.Lemmas.BeforeStop.{Apart, adjacent_items_apart, end_before_stop, hints_where_one_held, parted_by_failure}
+use Rattle.fallible_itertools_adapters.proofs.Lemmas.BeforeStop.{Apart, adjacent_items_apart, end_before_stop, parted_by_failure}
 use Rattle.fallible_itertools_adapters.proofs.Lemmas.Staged.{gives_plan}
 use Rattle.fallible_itertools_adapters.specs.declared.dedup.Dedup.{Dedup}
 
@@ -40,8 +40,3 @@ module _ {A : Type 0} (E : Type 0) (eq : A → A → Bool) where
 pub lists_deduped : {S A E : Type 0} {it : S} (m : Contract S A E) (eq : A → A → Bool) (s : Dedup S A E) (l : List (Result A E)) → dedup_parts s ≡ (it, ((None, tt), None)) → Lists m.steps it l → Lists (parts_as dedup_parts (dedup_contract eq m)).steps s (deduped eq l)
 unfolding deduped
 lists_deduped {E = E} {it = it} m eq s l parts i = lists_seen dedup_parts (dedup_contract eq m).steps s parts refl (gives_plan m.steps stop_comes calls_nothing (dedup_plan eq) dedup_stops (as_function (λ u. u)) (λ f z. ⊤) (λ f z q v g at called. absurd called) (end_before_stop E) l it None tt tt tt i.runs)
-
--- ---- its hint
-
-pub hints_dedup : {S A E : Type 0} (m : Contract S A E) (eq : A → A → Bool) → HintsWhereHeld (parts_as dedup_parts (dedup_contract eq m)) dedup_due m dedup_source
-hints_dedup {E = E} m eq = hints_where_one_held E (λ held. held) (λ held. None) held_one (λ held. refl) calls_nothing (dedup_plan eq) (dedup_plan_buffers E eq) dedup_parts m (λ P p. ⊤) 1

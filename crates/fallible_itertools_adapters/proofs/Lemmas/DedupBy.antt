@@ -1,5 +1,5 @@
--- What `DedupBy` lists, and its hint.
-use Rattle.std.specs.Prelude.{◌≡◌, ⊤, Bool, true, false, Option, Some, None, Result, Ok, Err, List, [], ◌∷◌, ◌++◌}
+-- What `DedupBy` lists.
+use Rattle.std.specs.Prelude.{◌≡◌, ⊤, Bool, true, false, Option, Some, None, Result, Ok, Err, List, ◌∷◌, ◌++◌}
 use Rattle.std.specs.Fn.{Mut}
 use Rattle.std.specs.Borrow.{Bor}
 use Rattle.std.proofs.Common.{refl, subst}
@@ -8,14 +8,14 @@ use Rattle.fallible_iterator.specs.Lists.{ActsWith, Lists}
 use Rattle.fallible_iterator.specs.Picking.{call_at_two}
 use Rattle.fallible_iterator.proofs.Lemmas.Lists.Passing.{lists_seen}
 use Rattle.fallible_itertools_adapters.specs.Adjacent.{AdjacentItems}
-use Rattle.fallible_itertools_adapters.specs.BeforeStop.{HintsWhereHeld, held_one}
+use Rattle.fallible_itertools_adapters.specs.BeforeStop.{held_one}
 use Rattle.fallible_itertools_adapters.specs.Dedup.{dedup_stops}
-use Rattle.fallible_itertools_adapters.specs.DedupBy.{dedup_by_contract, dedup_by_due, dedup_by_parts, dedup_by_plan, dedup_by_source, deduped_by, same_by, same_call, same_takes}
+use Rattle.fallible_itertools_adapters.specs.DedupBy.{dedup_by_contract, dedup_by_parts, dedup_by_plan, deduped_by, same_by, same_call}
 use Rattle.fallible_itertools_adapters.specs.Laws.DedupBy.{dedup_by_plan_buffers}
-use Rattle.fallible_itertools_adapters.specs.Plan.{Transition, plan_can}
+use Rattle.fallible_itertools_adapters.specs.Plan.{Transition}
 use Rattle.fallible_itertools_adapters.specs.Staged.{as_function, followed}
 use Rattle.fallible_itertools_adapters.specs.Staging.{stop_comes}
-use Rattle.fallible_itertools_adapters.proofs.Lemmas.BeforeStop.{Apart, adjacent_items_apart, end_before_stop, hints_where_one_held, parted_by_failure}
+use Rattle.fallible_itertools_adapters.proofs.Lemmas.BeforeStop.{Apart, adjacent_items_apart, end_before_stop, parted_by_failure}
 use Rattle.fallible_itertools_adapters.proofs.Lemmas.Staged.{gives_plan}
 use Rattle.fallible_itertools_adapters.specs.declared.dedup_by.DedupBy.{DedupBy}
 
@@ -52,8 +52,3 @@ pub lists_deduped_by : {S A F E : Type 0} {it : S} (m : Contract S A E) (g : Mut
     → Lists (parts_as dedup_by_parts (dedup_by_contract g m)).steps s (deduped_by h l)
 unfolding deduped_by
 lists_deduped_by {E = E} {it = it} m g s f h l parts acts i = lists_seen dedup_by_parts (dedup_by_contract g m).steps s parts refl (gives_plan m.steps stop_comes (same_call g) dedup_by_plan dedup_stops (as_function (on_both h)) (λ p z. p ≡ f) (λ p z both v k is called. let d = acts both.0 both.1 v k (subst (λ c. same_call g c both v k) is called) in (d.1, d.0)) (end_before_stop E) l it None f tt refl i.runs)
-
--- ---- its hint
-
-pub hints_dedup_by : {S A F E : Type 0} (m : Contract S A E) (g : Mut F (Bor A × (Bor A × Unit {0})) (Result Bool E)) → HintsWhereHeld (parts_as dedup_by_parts (dedup_by_contract g m)) dedup_by_due m dedup_by_source
-hints_dedup_by {E = E} m g = hints_where_one_held E (λ held. held) (λ held. None) held_one (λ held. refl) (same_call g) dedup_by_plan (dedup_by_plan_buffers E) dedup_by_parts m (plan_can (same_call g) dedup_by_plan dedup_stops (same_takes g)) 1

@@ -1,5 +1,5 @@
--- What `DedupByKey` lists, and its hint.
-use Rattle.std.specs.Prelude.{◌≡◌, ⊤, Bool, true, false, Option, Some, None, Result, Ok, Err, List, [], ◌∷◌, ◌++◌}
+-- What `DedupByKey` lists.
+use Rattle.std.specs.Prelude.{◌≡◌, ⊤, Bool, true, false, Option, Some, None, Result, Ok, Err, List, ◌∷◌, ◌++◌}
 use Rattle.std.specs.Fn.{Mut}
 use Rattle.std.specs.Borrow.{Bor}
 use Rattle.std.proofs.Common.{refl, subst}
@@ -8,13 +8,13 @@ use Rattle.fallible_iterator.specs.Contract.{Contract, parts_as}
 use Rattle.fallible_iterator.specs.Lists.{Acts, Lists}
 use Rattle.fallible_iterator.proofs.Lemmas.Lists.Passing.{lists_seen}
 use Rattle.fallible_itertools_adapters.specs.Adjacent.{AdjacentItems, HaveKeys}
-use Rattle.fallible_itertools_adapters.specs.BeforeStop.{HintsWhereHeld, held_one}
-use Rattle.fallible_itertools_adapters.specs.DedupByKey.{dedup_by_key_contract, dedup_by_key_due, dedup_by_key_parts, dedup_by_key_source, dedup_key_plan, dedup_key_stops, deduped_by_key, keyed_by, keyed_item, unless_same_key}
-use Rattle.fallible_itertools_adapters.specs.Laws.DedupByKey.{dedup_key_plan_buffers, held_one_of_keyed}
+use Rattle.fallible_itertools_adapters.specs.BeforeStop.{held_one}
+use Rattle.fallible_itertools_adapters.specs.DedupByKey.{dedup_by_key_contract, dedup_by_key_parts, dedup_key_plan, dedup_key_stops, deduped_by_key, keyed_by, keyed_item, unless_same_key}
+use Rattle.fallible_itertools_adapters.specs.Laws.DedupByKey.{dedup_key_plan_buffers}
 use Rattle.fallible_itertools_adapters.specs.Plan.{plan_can}
 use Rattle.fallible_itertools_adapters.specs.Staged.{as_function}
 use Rattle.fallible_itertools_adapters.specs.Staging.{Emitted, MayMeet, stop_comes}
-use Rattle.fallible_itertools_adapters.proofs.Lemmas.BeforeStop.{Apart, adjacent_items_apart, end_before_stop, hints_where_one_held, parted_by_failure}
+use Rattle.fallible_itertools_adapters.proofs.Lemmas.BeforeStop.{Apart, adjacent_items_apart, end_before_stop, parted_by_failure}
 use Rattle.fallible_itertools_adapters.proofs.Lemmas.Plan.{plan_can_where_callable}
 use Rattle.fallible_itertools_adapters.proofs.Lemmas.Staged.{gives_plan}
 use Rattle.fallible_itertools_adapters.specs.declared.dedup_by_key.DedupByKey.{DedupByKey}
@@ -56,11 +56,6 @@ pub lists_deduped_by_key : {S A K F E : Type 0} {it : S} (m : Contract S A E) (e
     → Lists (parts_as dedup_by_key_parts (dedup_by_key_contract eq g m)).steps s (deduped_by_key eq h l)
 unfolding deduped_by_key
 lists_deduped_by_key {E = E} {it = it} m eq g s f h l parts acts i = lists_seen dedup_by_key_parts (dedup_by_key_contract eq g m).steps s parts refl (gives_plan m.steps stop_comes (call_by_reference g) (dedup_key_plan eq) dedup_key_stops (as_function h) (λ p z. p ≡ f) (λ p z x v k is called. let d = acts x v k (subst (λ c. call_by_reference g c x v k) is called) in (d.1, d.0)) (λ held. end_before_stop E (keyed_item held)) l it None f tt refl i.runs)
-
--- ---- its hint
-
-pub hints_dedup_by_key : {S A K F E : Type 0} (m : Contract S A E) (eq : K → K → Bool) (g : Mut F (Bor A × Unit {0}) (Result K E)) → HintsWhereHeld (parts_as dedup_by_key_parts (dedup_by_key_contract eq g m)) dedup_by_key_due m dedup_by_key_source
-hints_dedup_by_key {E = E} m eq g = hints_where_one_held E keyed_item (λ held. None) held_one held_one_of_keyed (call_by_reference g) (dedup_key_plan eq) (dedup_key_plan_buffers E eq) dedup_by_key_parts m (plan_can (call_by_reference g) (dedup_key_plan eq) dedup_key_stops (takes_by_reference g)) 1
 
 -- where the closure may be called on what comes, so may the adapter
 pub plan_can_dedup_key : {S A K F E : Type 0} (m : Contract S A E) (eq : K → K → Bool) (g : Mut F (Bor A × Unit {0}) (Result K E)) (s : S) (p : Option (K × A) × F) → IsCallable (call_by_reference g) (takes_by_reference g) (m.may_give s) p.1 → plan_can (call_by_reference g) (dedup_key_plan eq) dedup_key_stops (takes_by_reference g) (MayMeet m s) p

@@ -1,11 +1,10 @@
 -- What `FuseAtFailure` lists.
-use Rattle.std.specs.Prelude.{◌≡◌, ℕ, Bool, true, false, List, [], ◌∷◌, Result, Ok, Err}
+use Rattle.std.specs.Prelude.{◌≡◌, ℕ, Bool, false, List, [], ◌∷◌, Result, Ok, Err}
 use Rattle.std.proofs.Common.{refl, sym, ap, subst, ◌∙◌}
-use Rattle.fallible_iterator.specs.Traces.{Answered, item, end}
+use Rattle.fallible_iterator.specs.Traces.{Answered}
 use Rattle.fallible_iterator.specs.Contract.{Contract, seen_as}
 use Rattle.fallible_iterator.specs.Closing.{closing_step}
 use Rattle.fallible_iterator.specs.Lists.{AlwaysGives, GivesForGood, Lists, ListsForGood, counted, one_more_than}
-use Rattle.fallible_iterator.proofs.Lemmas.Hints.Drawn.{OneOfOne}
 use Rattle.fallible_iterator.proofs.Lemmas.Lists.ForGood.{lists_for_good_seen}
 use Rattle.fallible_iterator.proofs.Lemmas.Lists.Passing.{lists_seen}
 use Rattle.fallible_itertools_adapters.specs.FuseAtFailure.{is_failure, fuse_at_failure_contract, fuse_at_failure_parts, up_to_failure}
@@ -41,19 +40,6 @@ module _ {S A E : Type 0} (steps : S → Answered A E → S → Type 0) where
   gives_for_good_up_to_failure [] s e is a = absurd (counted_of_none e is)
   gives_for_good_up_to_failure (Ok x ∷ l) s e is a = λ r t w. let d = a w.0 t.0 w.1 in (w.2 ∙ d.0, subst (λ (b : Bool). GivesForGood Step (t.0, b) (up_to_failure l)) (sym (w.3 ∙ ap is_failure d.0)) (gives_for_good_up_to_failure l t.0 e (fails_later (counted l) e (sym (counted_of_item x l) ∙ is)) d.1))
   gives_for_good_up_to_failure (Err d ∷ l) s e is a = λ r t w. let k = a w.0 t.0 w.1 in (w.2 ∙ k.0, ends_for_good_where_closed steps (λ r. r) is_failure t (w.3 ∙ ap is_failure k.0))
-
-  -- ---- its hint
-
-  source_gives_item_where_open_gives : (p q : S × Bool) (x : A) → p.1 ≡ false → Step p (item x) q → (y : A) × steps p.0 (item y) q.0 × (q.1 ≡ false)
-  source_gives_item_where_open_gives (s, true) q x e w = absurd cc
-  source_gives_item_where_open_gives (s, false) q x e w = (x, subst (λ (r : Answered A E). steps s r q.0) (sym w.2) w.1, w.3 ∙ ap is_failure (sym w.2))
-
-  source_ends_where_open_ends : (p q : S × Bool) → p.1 ≡ false → Step p end q → steps p.0 end q.0
-  source_ends_where_open_ends (s, true) q e w = absurd cc
-  source_ends_where_open_ends (s, false) q e w = subst (λ (r : Answered A E). steps s r q.0) (sym w.2) w.1
-
-  pub one_of_one_fuse_at_failure : OneOfOne Step steps (λ p. p.0) (λ p. p.1 ≡ false)
-  one_of_one_fuse_at_failure = record { item_of_item = λ p q x e w. source_gives_item_where_open_gives p q x e w; end_of_end = λ p q e w. source_ends_where_open_ends p q e w }
 
 pub lists_up_to_failure : {S A E : Type 0} {it : S} (m : Contract S A E) (s : FuseAtFailure S) (l : List (Result A E)) → fuse_at_failure_parts s ≡ (it, false) → Lists m.steps it l → Lists (seen_as fuse_at_failure_parts (fuse_at_failure_contract m)).steps s (up_to_failure l)
 lists_up_to_failure {it = it} m s l parts i = lists_seen fuse_at_failure_parts (fuse_at_failure_contract m).steps s parts refl (gives_up_to_failure m.steps l it i.runs)

@@ -1,26 +1,22 @@
--- What `Intersperse` and `IntersperseWith` list, and their hint.
-use Rattle.std.specs.Prelude.{◌≡◌, ℕ, suc, ◌+◌, ◌-◌, ◌^◌, ◌≤◌, ◌⊎◌, min, cond, ltb, Bool, true, false, Option, Some, None, Result, Ok, Err, IfSome, List, [], ◌∷◌, drop, ⊤}
+-- What `Intersperse` and `IntersperseWith` list.
+use Rattle.std.specs.Prelude.{◌≡◌, ℕ, suc, ◌⊎◌, Bool, true, false, Some, None, Result, Ok, Err, List, [], ◌∷◌, drop, ⊤}
 use Rattle.std.specs.Fn.{Mut}
-use Rattle.std.proofs.Common.{refl, sym, ap, subst, inl, inr, arith, ◌∙◌}
+use Rattle.std.proofs.Common.{refl, sym, ap, subst, inl, inr, ◌∙◌}
 use Rattle.fallible_iterator.specs.Traces.{Answered}
 use Rattle.fallible_iterator.specs.Closures.{IsCallable}
 use Rattle.fallible_iterator.specs.Contract.{Contract, parts_as}
 use Rattle.fallible_iterator.specs.Lists.{Acts, Lists, result_answer}
 use Rattle.fallible_iterator.specs.Refusing.{AnswersRefusal, IsMadeOf, ListsUntilRefused}
-use Rattle.fallible_iterator.specs.SoundHints.{HintsAsSoundAs}
 use Rattle.fallible_iterator.specs.Sources.FromFn.{call_of_none}
 use Rattle.fallible_iterator.proofs.Lemmas.Lists.Passing.{lists_seen}
 use Rattle.fallible_iterator.proofs.Lemmas.Refusing.{lists_until_refused_seen}
-use Rattle.fallible_itertools_adapters.specs.Intersperse.{fitting, intersperse_contract, intersperse_hint_plan, intersperse_parts, intersperse_plan, interspersed, interspersed_by, interspersed_high, interspersed_items, next_separator, separated_by, separator_cloned, unparted}
+use Rattle.fallible_itertools_adapters.specs.Intersperse.{intersperse_contract, intersperse_parts, intersperse_plan, interspersed, interspersed_by, next_separator, separator_cloned}
 use Rattle.fallible_itertools_adapters.specs.IntersperseWith.{CallsMakeShown, intersperse_with_contract, intersperse_with_parts, takes_none}
-use Rattle.fallible_itertools_adapters.specs.Laws.Plan.{Always}
-use Rattle.fallible_itertools_adapters.specs.Plan.{none_held, passes, plan_can, plan_hint, plan_meets}
+use Rattle.fallible_itertools_adapters.specs.Plan.{passes, plan_can}
 use Rattle.fallible_itertools_adapters.specs.Staged.{before_rest, plan_does, staged}
-use Rattle.fallible_itertools_adapters.specs.Staging.{due_total, item_comes, items_of, emitted_total, stage_contract}
+use Rattle.fallible_itertools_adapters.specs.Staging.{item_comes}
 use Rattle.fallible_itertools_adapters.proofs.Lemmas.Plan.{CallsOnAsked, plan_can_where_callable}
-use Rattle.fallible_itertools_adapters.proofs.Lemmas.PlanHints.{PlanMakes, hints_as_sound_plan, passes_at_most}
 use Rattle.fallible_itertools_adapters.proofs.Lemmas.Staged.{MakesSame, gives_plan, gives_plan_until_refused, made_as_itself}
-use Rattle.fallible_itertools_adapters.proofs.Lemmas.StagingHints.{DueFew, EmittedFew}
 use Rattle.fallible_itertools_adapters.proofs.Lemmas.StagingLists.{IsAnswerMade}
 use Rattle.std.specs.declared.alloc.AllocError.{AllocError}
 use Rattle.fallible_itertools_adapters.specs.declared.intersperse.Intersperse.{Intersperse}
@@ -136,63 +132,3 @@ plan_can_intersperse {A = A} g P p c = plan_can_where_callable (call_of_none g) 
     calls_on_none : (came : Bool) (x : A) → P (Ok (Some x)) → CallsOnAsked (call_of_none g) (takes_none g) intersperse_plan passes (λ u. ⊤) P (intersperse_plan came x)
     calls_on_none false x may = tt
     calls_on_none true x may = tt
-
--- ---- the hint
-
--- more items come of more
-interspersed_items_grow : {A : Type 0} (came : Bool) (due : Option A) (i j : ℕ) → i ≤ j → interspersed_items came due i ≤ interspersed_items came due j
-interspersed_items_grow came due i j le = omega (arith, le)
-
--- what fits is itself
-fitting_above : (n i : ℕ) → i ≤ n → IfSome (fitting n) (λ m. i ≤ m)
-fitting_above n i le = above_where_some (ltb n (2 ^ 64))
-  where
-    above_where_some : (b : Bool) → IfSome (cond b (Some n) None) (λ m. i ≤ m)
-    above_where_some true = le
-    above_where_some false = tt
-
--- how many items come of n items of the source, where none is due
-abbrev all_parted : Bool → ℕ → ℕ
-all_parted came n = n + (n - unparted came)
-
-module _ (A E : Type 0) where
-  separated_few : (x : A) (v : Result A E) (low : ℕ) → EmittedFew item_comes (separated_by x v).0 (λ n. (low - 1) + ((low - 1) - 0) ≤ n) (λ n. low + (low - 0) ≤ n)
-  separated_few x (Ok s) low = λ n after. omega (arith, after)
-  separated_few x (Err e) low = tt
-
-  separated_at_most : (x : A) (v : Result A E) (n : ℕ) → emitted_total item_comes items_of (separated_by x v).0 + (n + (n - 0)) ≤ suc n + (suc n - 0)
-  separated_at_most x (Ok s) n = omega arith
-  separated_at_most x (Err e) n = omega arith
-
-  intersperse_at_most : (came : Bool) (x : A) (n : ℕ) → Always (λ t. emitted_total {E = E} item_comes items_of t.0 + all_parted t.1 n ≤ all_parted came (suc n)) (intersperse_plan came x)
-  intersperse_at_most false x n = omega arith
-  intersperse_at_most true x n = λ v. separated_at_most x v n
-
-  intersperse_no_fewer : (came : Bool) (x : A) (low : ℕ) → Always (λ t. EmittedFew {E = E} item_comes t.0 (λ n. all_parted t.1 (low - 1) ≤ n) (λ n. all_parted came low ≤ n)) (intersperse_plan came x)
-  intersperse_no_fewer false x low = λ n after. omega (arith, after)
-  intersperse_no_fewer true x low = λ v. separated_few x v low
-
-  module _ {F : Type 0} (call : F → Unit {0} → Result A E → F → Type 0) where
-    intersperse_makes : PlanMakes item_comes call intersperse_plan passes all_parted (λ came low n. all_parted came low ≤ n)
-    intersperse_makes = record {
-      at_most = intersperse_at_most;
-      at_most_at_stop = λ h stop. passes_at_most item_comes _ h stop;
-      no_fewer = intersperse_no_fewer;
-      no_fewer_at_end = λ came. omega arith;
-      no_fewer_at_failure = λ came e low. tt;
-    }
-
-    due_total_above : (came : Bool) (due : Option A) (j : ℕ) → due_total {E = E} item_comes items_of due + all_parted came j ≤ interspersed_items came due j
-    due_total_above came None j = omega arith
-    due_total_above came (Some x) j = omega arith
-
-    interspersed_high_above : (came : Bool) (due : Option A) (o : Option ℕ) (j : ℕ) → IfSome o (λ n. j ≤ n) → IfSome (interspersed_high came due o) (λ n. due_total {E = E} item_comes items_of due + all_parted came j ≤ n)
-    interspersed_high_above came due None j h = tt
-    interspersed_high_above came due (Some n) j h = fitting_above (interspersed_items came due n) _ (let more = interspersed_items_grow came due j n h in let le = due_total_above came due j in omega (arith, le, more))
-
-    interspersed_low_below : (came : Bool) (due : Option A) (low : ℕ) → DueFew {E = E} item_comes due (λ n. all_parted came low ≤ n) (λ n. min (interspersed_items came due low) (2 ^ 64 - 1) ≤ n)
-    interspersed_low_below came None low = λ n after. omega (arith, after)
-    interspersed_low_below came (Some x) low = λ n after. omega (arith, after)
-
-    pub hints_as_sound_interspersed : {V S : Type 0} (view : V → S × ((Bool × F) × Option A)) (m : Contract S A E) (can : (Answered A E → Type 0) → Bool × F → Type 0) (s : V) → HintsAsSoundAs (parts_as view (stage_contract m item_comes (plan_meets call intersperse_plan passes) can 2 (λ p. none_held p.0) (plan_hint m intersperse_hint_plan))) s m (view s).0
-    hints_as_sound_interspersed view m can s = hints_as_sound_plan item_comes call intersperse_plan passes all_parted (λ came low n. all_parted came low ≤ n) intersperse_makes (λ came due n. min (interspersed_items came due n) (2 ^ 64 - 1)) interspersed_high interspersed_high_above interspersed_low_below view m can 2 (λ p. none_held p.0) intersperse_hint_plan s refl

@@ -1,18 +1,17 @@
--- One answer of a `Peekable` whose item is shown to the closure first; what `PeekingTakeWhile` lists; and its hint.
-use Rattle.std.specs.Prelude.{◌≡◌, ◌≤◌, Bool, true, false, List, [], ◌∷◌, length, map, Option, Result, Some, None, Ok, Err, ◌++◌, IfSome}
+-- One answer of a `Peekable` whose item is shown to the closure first; and what `PeekingTakeWhile` lists.
+use Rattle.std.specs.Prelude.{◌≡◌, Bool, true, false, List, [], ◌∷◌, map, Option, Result, Some, None, Ok, Err, ◌++◌, IfSome}
 use Rattle.std.specs.List.{filter_map}
 use Rattle.std.specs.Fn.{Mut}
 use Rattle.std.specs.Borrow.{Bor}
-use Rattle.std.proofs.Common.{refl, sym, ap, subst, ◌∙◌, arith}
+use Rattle.std.proofs.Common.{refl, sym, ap, subst, ◌∙◌}
 use Rattle.fallible_iterator.specs.Contract.{Contract, seen_as, parts_as}
 use Rattle.fallible_iterator.specs.Lists.{AlwaysGives, Lists, Acts, result_answer}
-use Rattle.fallible_iterator.specs.Traces.{Answered, Run, Yields, item, end}
+use Rattle.fallible_iterator.specs.Traces.{Answered, Run, item, end}
 use Rattle.fallible_iterator.specs.Closures.{Calls, call_by_reference}
 use Rattle.fallible_iterator.specs.Passing.{Place, asked, failure_at, end_at, source_answer, call_of}
 use Rattle.fallible_iterator.specs.Cutting.TakeWhile.{cons_while, is_refused, taken_answer, taken_while}
 use Rattle.fallible_iterator.specs.Peeking.Peekable.{Fills, Peeks, failure_told, held_item, peekable_contract, peekable_parts, peekable_step}
 use Rattle.fallible_iterator.proofs.Lemmas.Lists.Passing.{lists_seen}
-use Rattle.fallible_iterator.proofs.Lemmas.Hints.Drawn.{ItemsOfItems}
 use Rattle.fallible_itertools_adapters.specs.Laws.PeekingTakeWhile.{looked_at_is_next_answer, held_step}
 use Rattle.fallible_itertools_adapters.specs.PeekingTakeWhile.{AcceptsHeld, DrawsAtPlace, LooksAhead, rest_from_item, rest_by_while, peekable_looks, peeking_contract, peeking_parts, peeking_step}
 use Rattle.fallible_iterator.specs.Peekable.{Peekable}
@@ -175,17 +174,3 @@ if_some_lists_where_always_gives steps s (Some l) i = record { runs = i }
 pub lists_rest : {S F X E : Type 0} {m : Contract S X E} {looks : S → X → S → Type 0} (k : LooksAhead m looks) (g : Mut F (Bor X × Unit {0}) (Result Bool E)) (s t : PeekingTakeWhile S F) (h : X → Result Bool E) (l : List (Result X E)) → Acts (call_by_reference g) s.accept h → Lists m.steps s.it l
     → Run (seen_as peeking_parts (peeking_contract m looks g)).steps s (map result_answer (taken_while h l) ++ end ∷ []) t → IfSome (rest_by_while h l) (λ rest. Lists m.steps t.it rest)
 lists_rest {m = m} {looks = looks} k g s t h l a i ran = if_some_lists_where_always_gives m.steps t.it (rest_by_while h l) (leaves_rest_of_taken_while k (call_by_reference g) s.accept h a l s.it (peeking_parts t) i.runs (run_of_viewed peeking_parts (peeking_contract m looks g).steps (map result_answer (taken_while h l) ++ end ∷ []) s t ran))
-
--- ---- its hint
-
-module _ {S F X E : Type 0} (steps : S → Answered X E → S → Type 0) (looks : S → X → S → Type 0) (call : F → X → Result Bool E → F → Type 0) where
-  yields_one_at_least : (z : Place X (Result Bool E) E) (p q : S) (y : X) → item y ≡ taken_answer z → DrawsAtPlace steps looks z p q → (xs : List X) × Yields steps p xs q × (1 ≤ length xs)
-  yields_one_at_least (asked x (Ok true)) p q y e d = (x ∷ [], (q, d, refl), omega arith)
-  yields_one_at_least (asked x (Ok false)) p q y e d = absurd cc
-  yields_one_at_least (asked x (Err c)) p q y e d = absurd cc
-  yields_one_at_least (failure_at c) p q y e d = absurd cc
-  yields_one_at_least end_at p q y e d = absurd cc
-
-  -- an item of it comes of one of the source
-  pub items_of_items_peeking : ItemsOfItems (peeking_step steps looks call) steps (λ p. p.0) (λ p. Unit {0})
-  items_of_items_peeking = record { items_of_item = λ p q y _ w. let d = yields_one_at_least w.0 p.0 q.0 y w.3 w.1 in (d.0, d.1, d.2, tt) }

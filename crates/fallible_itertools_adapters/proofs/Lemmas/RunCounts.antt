@@ -1,4 +1,4 @@
--- What `DedupWithCount` and `DedupByWithCount` list, and their hints.
+-- What `DedupWithCount` and `DedupByWithCount` list.
 use Rattle.std.specs.Prelude.{◌≡◌, ℕ, Bool, true, false, ⊤, Option, Some, None, Result, Ok, Err, List, [], ◌∷◌, ◌++◌}
 use Rattle.std.proofs.Common.{refl, ap, subst, ◌∙◌}
 use Rattle.std.specs.Fn.{Mut}
@@ -6,18 +6,16 @@ use Rattle.std.specs.Borrow.{Bor}
 use Rattle.fallible_iterator.specs.Contract.{Contract, parts_as}
 use Rattle.fallible_iterator.specs.Lists.{ActsWith, Lists}
 use Rattle.fallible_iterator.specs.Picking.{call_at_two}
-use Rattle.fallible_iterator.specs.Traces.{Answered}
 use Rattle.fallible_iterator.proofs.Lemmas.Lists.Passing.{lists_seen}
-use Rattle.fallible_itertools_adapters.specs.BeforeStop.{HintsWhereHeld, held_hint_plan, held_one}
+use Rattle.fallible_itertools_adapters.specs.BeforeStop.{held_one}
 use Rattle.fallible_itertools_adapters.specs.DedupBy.{same_call}
 use Rattle.fallible_itertools_adapters.specs.DedupByWithCount.{dedup_by_with_count_contract, dedup_by_with_count_parts}
 use Rattle.fallible_itertools_adapters.specs.DedupWithCount.{are_equal, dedup_with_count_contract, dedup_with_count_parts}
 use Rattle.fallible_itertools_adapters.specs.Laws.RunCounts.{count_buffers}
-use Rattle.fallible_itertools_adapters.specs.Plan.{bounded, plan_hint, plan_meets}
 use Rattle.fallible_itertools_adapters.specs.RunCounts.{count_plan, count_stops, counted_by, deduped_by_with_count, deduped_with_count, first_once_more, one_more}
 use Rattle.fallible_itertools_adapters.specs.Staged.{as_function, calls_function, emitted_first, plan_does, staged}
-use Rattle.fallible_itertools_adapters.specs.Staging.{stage_contract, stop_comes}
-use Rattle.fallible_itertools_adapters.proofs.Lemmas.BeforeStop.{end_before_stop, hints_where_one_held, parted_by_failure}
+use Rattle.fallible_itertools_adapters.specs.Staging.{stop_comes}
+use Rattle.fallible_itertools_adapters.proofs.Lemmas.BeforeStop.{end_before_stop, parted_by_failure}
 use Rattle.fallible_itertools_adapters.proofs.Lemmas.Staged.{gives_plan}
 use Rattle.fallible_itertools_adapters.specs.declared.dedup_by_with_count.DedupByWithCount.{DedupByWithCount}
 use Rattle.fallible_itertools_adapters.specs.declared.dedup_with_count.DedupWithCount.{DedupWithCount}
@@ -102,9 +100,3 @@ pub lists_deduped_by_with_count : {S A F E : Type 0} {it : S} (m : Contract S A 
     → Lists (parts_as dedup_by_with_count_parts (dedup_by_with_count_contract g m)).steps s (deduped_by_with_count h l)
 unfolding deduped_by_with_count
 lists_deduped_by_with_count {E = E} {it = it} m g s f h l parts acts i = lists_seen dedup_by_with_count_parts (dedup_by_with_count_contract g m).steps s parts refl (gives_plan m.steps stop_comes (same_call g) count_plan count_stops (as_function (λ both. h both.0 both.1)) (λ p z. p ≡ f) (λ p z q v k is called. let d = acts q.0 q.1 v k (subst (λ c. call_at_two g c q.0 q.1 v k) is called) in (d.1, d.0)) (end_before_stop E) l it None f tt refl i.runs)
-
--- ---- the hint
-
-module _ {F A E : Type 0} (call : F → A × A → Result Bool E → F → Type 0) where
-  pub hints_counted : {V S : Type 0} (view : V → S × ((Option (ℕ × A) × F) × Option (Option E))) (m : Contract S A E) (can : (Answered A E → Type 0) → Option (ℕ × A) × F → Type 0) → HintsWhereHeld (parts_as view (stage_contract (bounded m) stop_comes (plan_meets call count_plan count_stops) can 1 (λ p. held_one p.0) (plan_hint (bounded m) (held_hint_plan held_one)))) (λ s. (view s).1.1) m (λ s. (view s).0)
-  hints_counted view m can = hints_where_one_held E (λ held. held) (λ held. None) held_one (λ held. refl) call count_plan (count_buffers E) view m can 1

@@ -1,26 +1,22 @@
 -- What `TakeWhileInclusive` lists, and its hint.
-use Rattle.std.specs.Prelude.{◌≡◌, ℕ, suc, ◌+◌, ◌-◌, ◌≤◌, min, Bool, true, false, List, [], ◌∷◌, is_some, Option, Result, Some, None, Ok, Err, ◌⊎◌}
+use Rattle.std.specs.Prelude.{◌≡◌, ℕ, ◌+◌, Bool, true, false, List, [], ◌∷◌, Option, Result, Some, None, Ok, Err, ◌⊎◌}
 use Rattle.std.specs.Fn.{Mut}
 use Rattle.std.specs.Borrow.{Bor}
-use Rattle.std.proofs.Common.{refl, sym, ap, subst, inl, inr, ◌∙◌, arith}
-use Rattle.fallible_iterator.specs.Contract.{Contract, parts_as, seen_as}
+use Rattle.std.proofs.Common.{refl, sym, ap, subst, inl, inr, ◌∙◌}
+use Rattle.fallible_iterator.specs.Contract.{Contract, seen_as}
 use Rattle.fallible_iterator.specs.Lists.{Acts, AlwaysGives, GivesForGood, Lists, ListsForGood, all_of, decided, searched}
 use Rattle.fallible_iterator.specs.Traces.{Answered, item}
 use Rattle.fallible_iterator.specs.Closures.{IsCallable, call_by_reference, takes_by_reference}
 use Rattle.fallible_iterator.specs.Searching.{all_pick}
-use Rattle.fallible_iterator.specs.SoundHints.{Brackets, HintsAsSoundAs, SoundHints}
 use Rattle.fallible_iterator.proofs.Lemmas.Lists.ForGood.{lists_for_good_seen}
 use Rattle.fallible_iterator.proofs.Lemmas.Lists.Passing.{lists_seen}
-use Rattle.fallible_iterator.proofs.Lemmas.Hints.Drawn.{brackets_seen, brackets_zero_where_no_item, if_some_at_least_of_smaller}
 use Rattle.fallible_itertools_adapters.specs.Laws.Staging.{parts_equal_where_emitted_equal}
-use Rattle.fallible_itertools_adapters.specs.Plan.{HintBy, none_held, passes, plan_can, plan_hint, plan_meets}
+use Rattle.fallible_itertools_adapters.specs.Plan.{passes, plan_can, plan_meets}
 use Rattle.fallible_itertools_adapters.specs.Staged.{as_function, emitted_first, plan_does, staged}
-use Rattle.fallible_itertools_adapters.specs.Staging.{DrawsUpTo, Emitted, MayMeet, due_total, ends_come, items_of, emitted_total, passes_over, stage_contract, stage_step, yields}
-use Rattle.fallible_itertools_adapters.specs.TakeWhileInclusive.{inclusive_by, inclusive_contract, inclusive_hint_plan, inclusive_parts, inclusive_plan, taken_while_inclusive}
+use Rattle.fallible_itertools_adapters.specs.Staging.{DrawsUpTo, Emitted, MayMeet, ends_come, passes_over, stage_step, yields}
+use Rattle.fallible_itertools_adapters.specs.TakeWhileInclusive.{inclusive_by, inclusive_contract, inclusive_parts, inclusive_plan, taken_while_inclusive}
 use Rattle.fallible_itertools_adapters.proofs.Lemmas.Plan.{plan_can_where_callable}
-use Rattle.fallible_itertools_adapters.proofs.Lemmas.PlanHints.{PlanMakes, hints_as_sound_plan, passes_at_most}
 use Rattle.fallible_itertools_adapters.proofs.Lemmas.Staged.{ends_for_good_where_ends_due, gives_plan}
-use Rattle.fallible_itertools_adapters.proofs.Lemmas.StagingHints.{DueFew, EmittedFew}
 use Rattle.fallible_itertools_adapters.specs.declared.take_while_inclusive.TakeWhileInclusive.{TakeWhileInclusive}
 
 -- ---- its equations
@@ -121,58 +117,3 @@ lists_for_good_inclusive {it = it} m g s f h l parts acts i rejects = lists_for_
 -- where the predicate may be called on what comes, so may the adapter
 pub plan_can_inclusive : {S F X E : Type 0} (m : Contract S X E) (g : Mut F (Bor X × Unit {0}) (Result Bool E)) (s : S) (p : Unit {0} × F) → IsCallable (call_by_reference g) (takes_by_reference g) (m.may_give s) p.1 → plan_can (call_by_reference g) inclusive_plan passes (takes_by_reference g) (MayMeet m s) p
 plan_can_inclusive m g s p c = plan_can_where_callable (call_by_reference g) (takes_by_reference g) inclusive_plan passes (m.may_give s) (MayMeet m s) (λ u x may. may) p c
-
--- ---- its hint
-
-pub none_due_where_not_rejected : (due : Option (Unit {0})) → is_some due ≡ false → due ≡ None
-none_due_where_not_rejected None is = refl
-none_due_where_not_rejected (Some over) is = absurd cc
-
-pub ends_due_where_rejected : (due : Option (Unit {0})) → is_some due ≡ true → due ≡ Some tt
-ends_due_where_rejected None is = absurd cc
-ends_due_where_rejected (Some over) is = refl
-
--- the lower bound of the first item, until one was rejected
-abbrev first_if_open : Option (Unit {0}) → ℕ → ℕ
-first_if_open None low = min low 1
-first_if_open (Some over) low = 0
-
-module _ (X E : Type 0) where
-  -- the first item comes, or its failure
-  inclusive_few : (x : X) (low : ℕ) (v : Result Bool E) → EmittedFew ends_come (inclusive_by x v).0 (λ n. min (low - 1) 1 ≤ n) (λ n. min low 1 ≤ n)
-  inclusive_few x low (Ok true) = λ n after. omega arith
-  inclusive_few x low (Ok false) = omega arith
-  inclusive_few x low (Err e) = tt
-
-  inclusive_at_most : (x : X) (n : ℕ) (v : Result Bool E) → emitted_total ends_come items_of (inclusive_by x v).0 + n ≤ suc n
-  inclusive_at_most x n (Ok true) = omega arith
-  inclusive_at_most x n (Ok false) = omega arith
-  inclusive_at_most x n (Err e) = omega arith
-
-  module _ {F : Type 0} (call : F → X → Result Bool E → F → Type 0) where
-    inclusive_makes : PlanMakes ends_come call inclusive_plan passes (λ u n. n) (λ u low n. min low 1 ≤ n)
-    inclusive_makes = record {
-      at_most = λ u x n v. inclusive_at_most x n v;
-      at_most_at_stop = λ h stop. passes_at_most ends_come _ h stop;
-      no_fewer = λ u x low v. inclusive_few x low v;
-      no_fewer_at_end = λ u. omega arith;
-      no_fewer_at_failure = λ u e low. tt;
-    }
-
-    due_total_is_zero : (due : Option (Unit {0})) → due_total {B = X} {E = E} ends_come items_of due ≡ 0
-    due_total_is_zero None = refl
-    due_total_is_zero (Some over) = refl
-
-    few_below : (u : Unit {0}) (due : Option (Unit {0})) (low : ℕ) → DueFew {B = X} {E = E} ends_come due (λ n. min low 1 ≤ n) (λ n. first_if_open due low ≤ n)
-    few_below u None low = λ n after. after
-    few_below u (Some over) low = omega arith
-
-    pub hints_as_sound_inclusive : {V S : Type 0} (view : V → S × ((Unit {0} × F) × Option (Unit {0}))) (m : Contract S X E) (can : (Answered X E → Type 0) → Unit {0} × F → Type 0) (s : V) → (view s).1.1 ≡ None → HintsAsSoundAs (parts_as view (stage_contract m ends_come (plan_meets call inclusive_plan passes) can 1 (λ p. none_held p.0) (plan_hint m inclusive_hint_plan))) s m (view s).0
-    hints_as_sound_inclusive view m can s undue = hints_as_sound_plan ends_come call inclusive_plan passes (λ u n. n) (λ u low n. min low 1 ≤ n) inclusive_makes (λ u due n. first_if_open due n) (λ u due o. o) (λ u due o n le. let none = due_total_is_zero due in if_some_at_least_of_smaller o (due_total {B = X} {E = E} ends_come items_of due + n) n (omega (arith, none)) le) few_below view m can 1 (λ p. none_held p.0) inclusive_hint_plan s (rw undue refl)
-
-    sound_at : {S : Type 0} (m : Contract S X E) (s : S) (p : Unit {0} × F) (due : Option (Unit {0})) (h : ℕ × Option ℕ) → due ≡ Some tt → HintBy m s (inclusive_hint_plan p.0 due) h → Brackets (stage_step ends_come (plan_meets call inclusive_plan passes) m.steps) (s, (p, due)) h
-    sound_at m s p None h closed is = absurd cc
-    sound_at m s p (Some over) h closed is = rw is (brackets_zero_where_no_item (stage_step ends_come (plan_meets call inclusive_plan passes) m.steps) (s, (p, Some over)) (λ x t w. let no = w.0 in cc))
-
-    pub hints_sound_where_rejected : {V S : Type 0} (view : V → S × ((Unit {0} × F) × Option (Unit {0}))) (m : Contract S X E) (can : (Answered X E → Type 0) → Unit {0} × F → Type 0) (s : V) → (view s).1.1 ≡ Some tt → SoundHints (parts_as view (stage_contract m ends_come (plan_meets call inclusive_plan passes) can 1 (λ p. none_held p.0) (plan_hint m inclusive_hint_plan))) s
-    hints_sound_where_rejected view m can s closed h is = brackets_seen view (stage_step ends_come (plan_meets call inclusive_plan passes) m.steps) s h (sound_at m (view s).0 (view s).1.0 (view s).1.1 h closed is)

@@ -1,23 +1,18 @@
--- What `WithPosition` lists, its draws, and its hint: every item of the source is yielded, and so is the one that is held.
-use Rattle.std.specs.Prelude.{◌≡◌, ℕ, suc, ◌+◌, ◌-◌, ◌≤◌, ◌^◌, min, ⊤, Bool, true, false, Option, Some, None, Result, Ok, Err, List, [], ◌∷◌, ◌++◌, map}
-use Rattle.std.proofs.Common.{refl, sym, ap, subst, arith}
+-- What `WithPosition` lists, and its draws.
+use Rattle.std.specs.Prelude.{◌≡◌, ⊤, Bool, true, false, Option, Some, None, Result, Ok, Err, List, [], ◌∷◌, ◌++◌, map}
+use Rattle.std.proofs.Common.{refl, sym, ap, subst}
 use Rattle.fallible_iterator.specs.Traces.{Answered, item}
 use Rattle.fallible_iterator.specs.Contract.{Contract, parts_as}
-use Rattle.fallible_iterator.specs.Hints.{fitting_sum}
 use Rattle.fallible_iterator.specs.Lists.{Lists}
-use Rattle.fallible_iterator.proofs.Lemmas.Hints.Joining.{if_some_fitting_sum_at_least_both}
 use Rattle.fallible_iterator.proofs.Lemmas.Lists.Passing.{lists_seen}
-use Rattle.fallible_itertools_adapters.specs.BeforeStop.{HintsWhereHeld, held_one}
-use Rattle.fallible_itertools_adapters.specs.Laws.Plan.{Always}
+use Rattle.fallible_itertools_adapters.specs.BeforeStop.{held_one}
 use Rattle.fallible_itertools_adapters.specs.Laws.WithPosition.{position_buffers}
 use Rattle.fallible_itertools_adapters.specs.Plan.{calls_nothing, plan_meets}
 use Rattle.fallible_itertools_adapters.specs.Staged.{as_function, plan_does, staged}
-use Rattle.fallible_itertools_adapters.specs.Staging.{EndsInStop, items_of, emitted_total, passes_over, stage_step, stop_comes, yields}
-use Rattle.fallible_itertools_adapters.specs.WithPosition.{position_plan, position_stops, positioned, positioned_last, with_position_contract, with_position_due, with_position_parts, with_position_source}
-use Rattle.fallible_itertools_adapters.proofs.Lemmas.BeforeStop.{end_before_stop, hints_where_held, parted_by_failure}
-use Rattle.fallible_itertools_adapters.proofs.Lemmas.PlanHints.{PlanMakes}
+use Rattle.fallible_itertools_adapters.specs.Staging.{passes_over, stage_step, stop_comes, yields}
+use Rattle.fallible_itertools_adapters.specs.WithPosition.{position_plan, position_stops, positioned, positioned_last, with_position_contract, with_position_parts}
+use Rattle.fallible_itertools_adapters.proofs.Lemmas.BeforeStop.{end_before_stop, parted_by_failure}
 use Rattle.fallible_itertools_adapters.proofs.Lemmas.Staged.{gives_plan}
-use Rattle.fallible_itertools_adapters.proofs.Lemmas.StagingHints.{EmittedFew}
 use Rattle.fallible_itertools_adapters.specs.declared.with_position.Position.{Position}
 use Rattle.fallible_itertools_adapters.specs.declared.with_position.Position.TheVariants.{First, Middle, Last, Only}
 use Rattle.fallible_itertools_adapters.specs.declared.with_position.WithPosition.{WithPosition}
@@ -83,42 +78,3 @@ module _ {S A E : Type 0} (steps : S → Answered A E → S → Type 0) where
 
   pub position_step_of_failure : {s u : S} {held : Option (Bool × A)} {z : Unit {0}} {due after : Option (Option E)} (e : E) → held ≡ None → None ≡ due → after ≡ None → steps s (Err e) u → StepsOfWithPosition (s, ((held, z), due)) (Err e) (u, ((held, z), after))
   position_step_of_failure e is none undue step = step_where_none is none (yields (Err e) step ((ap (λ d. Some (Err e, d)) undue, is), refl))
-
--- ---- its hint
-
-module _ (A E : Type 0) where
-  position_at_most : (held : Option (Bool × A)) (x : A) (n : ℕ) → Always (λ t. emitted_total {E = E} stop_comes items_of t.0 + (n + held_one t.1) ≤ suc n + held_one held) (position_plan held x)
-  position_at_most None x n = omega arith
-  position_at_most (Some p) x n = omega arith
-
-  position_at_most_at_stop : (held : Option (Bool × A)) (stop : Option E) → (emitted_total stop_comes items_of (position_stops held stop).0 ≤ 0 + held_one held) × EndsInStop stop_comes (position_stops held stop).0
-  position_at_most_at_stop None None = (omega arith, tt)
-  position_at_most_at_stop None (Some e) = (omega arith, tt)
-  position_at_most_at_stop (Some p) None = (omega arith, tt)
-  position_at_most_at_stop (Some p) (Some e) = (omega arith, tt)
-
-  -- none is lost: what is held is one more
-  position_no_fewer : (held : Option (Bool × A)) (x : A) (low : ℕ) → Always (λ t. EmittedFew {E = E} stop_comes t.0 (λ n. (low - 1) + held_one t.1 ≤ n) (λ n. low + held_one held ≤ n)) (position_plan held x)
-  position_no_fewer None x low = λ n after. omega (arith, after)
-  position_no_fewer (Some p) x low = λ n after. omega (arith, after)
-
-  position_no_fewer_at_end : (held : Option (Bool × A)) → EmittedFew {E = E} stop_comes (position_stops held None).0 (λ n. 0 + 0 ≤ n) (λ n. 0 + held_one held ≤ n)
-  position_no_fewer_at_end None = omega arith
-  position_no_fewer_at_end (Some p) = omega arith
-
-  position_no_fewer_at_failure : (held : Option (Bool × A)) (e : E) (low : ℕ) → EmittedFew stop_comes (position_stops held (Some e)).0 (λ n. 0 + 0 ≤ n) (λ n. low + held_one held ≤ n)
-  position_no_fewer_at_failure None e low = tt
-  position_no_fewer_at_failure (Some p) e low = tt
-
-  position_makes : PlanMakes {X = A} stop_comes (calls_nothing {F = Unit {0}}) position_plan (position_stops {E = E}) (λ held n. n + held_one held) (λ held low n. low + held_one held ≤ n)
-  position_makes = record {
-    at_most = position_at_most;
-    at_most_at_stop = position_at_most_at_stop;
-    no_fewer = position_no_fewer;
-    no_fewer_at_end = position_no_fewer_at_end;
-    no_fewer_at_failure = position_no_fewer_at_failure;
-  }
-
-pub hints_positioned : {S A E : Type 0} (m : Contract S A E) → HintsWhereHeld (parts_as with_position_parts (with_position_contract m)) (with_position_due {I = S} {A = A} {E = E}) m with_position_source
-hints_positioned {A = A} {E = E} m = hints_where_held calls_nothing position_plan position_stops (λ held n. n + held_one held) (λ held low n. low + held_one held ≤ n) (position_makes A E) (λ held n. min (n + held_one held) (2 ^ 64 - 1)) (λ held o. fitting_sum o (Some (held_one held)))
-    (λ held o n le. if_some_fitting_sum_at_least_both o (Some (held_one held)) n (held_one held) (n + held_one held) (omega arith) le (omega arith)) (λ held n k few. omega (arith, few)) with_position_parts m (λ P p. ⊤) 1 (λ p. held_one p.0)

@@ -4,8 +4,9 @@ use Rattle.std.specs.Fn.{Mut}
 use Rattle.std.specs.Borrow.{Bor}
 use Rattle.std.proofs.Common.{refl, arith}
 use Rattle.fallible_iterator.specs.Contract.{Contract, Lawful}
-use Rattle.fallible_itertools_adapters.specs.BeforeStop.{held_hint_plan, held_one}
+use Rattle.fallible_itertools_adapters.specs.BeforeStop.{held_hint_plan, held_one, held_hint, held_sound}
 use Rattle.fallible_itertools_adapters.specs.ChunkBy.{KeyedPut, chunk_by_contract, chunk_by_plan, chunk_by_stops, group_at, group_by, group_kept, puts_by_key, takes_key}
+use Rattle.fallible_itertools_adapters.specs.Laws.BeforeStop.{one_held_hold}
 use Rattle.fallible_itertools_adapters.specs.Laws.Plan.{ItemBuffers, before_stop_weighs, failure_buffers, is_stage_buffering, lawful_bounded, lawful_closure}
 use Rattle.fallible_itertools_adapters.specs.Plan.{plan_meets}
 use Rattle.fallible_itertools_adapters.specs.Staging.{IsStage, stop_comes}
@@ -32,4 +33,4 @@ module _ {F A K E : Type 0} (from : AllocError → E → Type 0) (eq : K → K �
   is_stage_chunk_by = is_stage_buffering held_one (puts_by_key from eq g) (chunk_by_plan eq) chunk_by_stops (λ held x v. group_by_buffers E eq held v) (λ held stop. before_stop_weighs held_one held None held stop refl refl)
 
   pub lawful_chunk_by : {S : Type 0} {m : Contract S A E} → Lawful m → Lawful (chunk_by_contract from eq g m)
-  lawful_chunk_by l = lawful_closure (lawful_bounded l) stop_comes (puts_by_key from eq g) (chunk_by_plan eq) chunk_by_stops 1 held_one (held_hint_plan held_one) is_stage_chunk_by (takes_key g)
+  lawful_chunk_by {m = m} l = lawful_closure (lawful_bounded l) stop_comes (puts_by_key from eq g) (chunk_by_plan eq) chunk_by_stops 1 held_one (held_hint_plan held_one) is_stage_chunk_by (held_sound m (λ held. held_hint (held_one held))) (one_held_hold E (λ held. held) (λ held. None) held_one (λ held. refl) (puts_by_key from eq g) (chunk_by_plan eq) (λ held x v. group_by_buffers E eq held v) m l.hold) (takes_key g)

@@ -2,8 +2,9 @@
 use Rattle.std.specs.Prelude.{Bool, true, false, Option, Some, None}
 use Rattle.std.proofs.Common.{arith, refl}
 use Rattle.fallible_iterator.specs.Contract.{Contract, Lawful}
-use Rattle.fallible_itertools_adapters.specs.BeforeStop.{held_hint_plan, held_one}
+use Rattle.fallible_itertools_adapters.specs.BeforeStop.{held_hint_plan, held_one, held_hint, held_sound}
 use Rattle.fallible_itertools_adapters.specs.Dedup.{dedup_contract, dedup_plan, dedup_stops, unless_same}
+use Rattle.fallible_itertools_adapters.specs.Laws.BeforeStop.{one_held_hold}
 use Rattle.fallible_itertools_adapters.specs.Laws.Plan.{Always, ItemBuffers, StopWeighs, before_stop_weighs, is_stage_buffering, lawful_bounded, lawful_plan}
 use Rattle.fallible_itertools_adapters.specs.Plan.{calls_nothing, plan_meets}
 use Rattle.fallible_itertools_adapters.specs.Staging.{IsStage, stop_comes}
@@ -24,4 +25,4 @@ pub is_stage_dedup : {A E : Type 0} (eq : A → A → Bool) → IsStage stop_com
 is_stage_dedup {E = E} eq = is_stage_buffering held_one calls_nothing (dedup_plan eq) dedup_stops (dedup_plan_buffers E eq) (dedup_stops_weighs E)
 
 pub lawful_dedup : {S A E : Type 0} {m : Contract S A E} (eq : A → A → Bool) → Lawful m → Lawful (dedup_contract eq m)
-lawful_dedup eq l = lawful_plan (lawful_bounded l) stop_comes calls_nothing (dedup_plan eq) dedup_stops 1 held_one (held_hint_plan held_one) (is_stage_dedup eq)
+lawful_dedup {E = E} {m = m} eq l = lawful_plan (lawful_bounded l) stop_comes calls_nothing (dedup_plan eq) dedup_stops 1 held_one (held_hint_plan held_one) (is_stage_dedup eq) (held_sound m (λ held. held_hint (held_one held))) (one_held_hold E (λ held. held) (λ held. None) held_one (λ held. refl) calls_nothing (dedup_plan eq) (dedup_plan_buffers E eq) m l.hold)

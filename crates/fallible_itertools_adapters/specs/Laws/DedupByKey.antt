@@ -5,8 +5,9 @@ use Rattle.std.specs.Borrow.{Bor}
 use Rattle.std.proofs.Common.{arith, refl}
 use Rattle.fallible_iterator.specs.Closures.{call_by_reference, takes_by_reference}
 use Rattle.fallible_iterator.specs.Contract.{Contract, Lawful}
-use Rattle.fallible_itertools_adapters.specs.BeforeStop.{held_hint_plan, held_one}
+use Rattle.fallible_itertools_adapters.specs.BeforeStop.{held_hint_plan, held_one, held_hint, held_sound}
 use Rattle.fallible_itertools_adapters.specs.DedupByKey.{dedup_by_key_contract, dedup_key_plan, dedup_key_stops, keyed_by, keyed_item, unless_same_key}
+use Rattle.fallible_itertools_adapters.specs.Laws.BeforeStop.{one_held_hold}
 use Rattle.fallible_itertools_adapters.specs.Laws.Plan.{Always, ItemBuffers, StopWeighs, before_stop_weighs, is_stage_buffering, lawful_bounded, lawful_closure}
 use Rattle.fallible_itertools_adapters.specs.Plan.{plan_meets}
 use Rattle.fallible_itertools_adapters.specs.Staging.{IsStage, stop_comes}
@@ -38,4 +39,4 @@ pub is_stage_dedup_key : {F A K E : Type 0} (eq : K → K → Bool) (call : F �
 is_stage_dedup_key {E = E} eq call = is_stage_buffering held_one call (dedup_key_plan eq) dedup_key_stops (dedup_key_plan_buffers E eq) (dedup_key_stops_weighs E)
 
 pub lawful_dedup_by_key : {S A K F E : Type 0} {m : Contract S A E} (eq : K → K → Bool) (g : Mut F (Bor A × Unit {0}) (Result K E)) → Lawful m → Lawful (dedup_by_key_contract eq g m)
-lawful_dedup_by_key eq g l = lawful_closure (lawful_bounded l) stop_comes (call_by_reference g) (dedup_key_plan eq) dedup_key_stops 1 held_one (held_hint_plan held_one) (is_stage_dedup_key eq (call_by_reference g)) (takes_by_reference g)
+lawful_dedup_by_key {E = E} {m = m} eq g l = lawful_closure (lawful_bounded l) stop_comes (call_by_reference g) (dedup_key_plan eq) dedup_key_stops 1 held_one (held_hint_plan held_one) (is_stage_dedup_key eq (call_by_reference g)) (held_sound m (λ held. held_hint (held_one held))) (one_held_hold E keyed_item (λ held. None) held_one held_one_of_keyed (call_by_reference g) (dedup_key_plan eq) (dedup_key_plan_buffers E eq) m l.hold) (takes_by_reference g)

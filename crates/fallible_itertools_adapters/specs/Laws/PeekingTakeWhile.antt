@@ -1,10 +1,10 @@
 -- What looks ahead, and that the contract of `PeekingTakeWhile` is lawful where the source's is.
-use Rattle.std.specs.Prelude.{◌≡◌, [], ◌∷◌, Option, Result, Some, None, Ok, Err, Bool, true, false}
+use Rattle.std.specs.Prelude.{◌≡◌, [], ◌∷◌, Option, Result, Some, None, Ok, Err, Bool, true, false, ◌≤◌, ℕ, List, length}
 use Rattle.std.specs.List.{filter_map}
 use Rattle.std.specs.Fn.{Mut}
 use Rattle.std.specs.Borrow.{Bor, MutBor}
 use Rattle.std.proofs.Common.{refl, sym, ap, ap₂, subst, ◌∙◌, arith, inl, inr}
-use Rattle.fallible_iterator.specs.Traces.{Answered, item, failure, end}
+use Rattle.fallible_iterator.specs.Traces.{Answered, item, failure, end, Yields}
 use Rattle.fallible_iterator.specs.Borrowed.{borrowed}
 use Rattle.fallible_iterator.specs.Contract.{Contract, KeptByDraw, Lawful, OnAnswer, lender_and, parts_as}
 use Rattle.fallible_iterator.specs.Closures.{Calls, IsCallable, Reaches, call_by_reference, takes_by_reference}
@@ -13,12 +13,14 @@ use Rattle.fallible_iterator.specs.Hints.{upper_alone}
 use Rattle.fallible_iterator.specs.Laws.Closures.{is_callable_after, may_answer_where_reached_may_answer, reaches_by_call_first, reaches_reflexive}
 use Rattle.fallible_iterator.specs.Laws.Passing.{lawful_passing, pass_trace_item, pass_trace_refusal, pass_trace_end, pass_trace_failure}
 use Rattle.fallible_iterator.specs.Laws.Peeking.Peekable.{lawful_peekable}
-use Rattle.fallible_iterator.specs.Laws.Sound.{own_hold}
 use Rattle.fallible_iterator.specs.Cutting.TakeWhile.{taken_answer, take_while_outcome}
 use Rattle.fallible_iterator.specs.Peeking.Peekable.{Peeks, peekable_contract, peekable_parts, peekable_step}
-use Rattle.fallible_itertools_adapters.specs.PeekingTakeWhile.{DrawsAtPlace, LooksAhead, borrowed_looks, peekable_looks, peeking_contract}
+use Rattle.fallible_itertools_adapters.specs.PeekingTakeWhile.{DrawsAtPlace, LooksAhead, borrowed_looks, peekable_looks, peeking_contract, peeking_step}
 use Rattle.fallible_itertools_adapters.specs.Laws.PeekingTraces.{peeking_traced}
 use Rattle.fallible_iterator.specs.Peekable.{Peekable}
+use Rattle.fallible_iterator.specs.Laws.Hints.Drawn.{ItemsOfItems, as_sound_upper_alone_of_source}
+use Rattle.fallible_iterator.specs.Laws.Hints.Holding.{hold_above_as_source}
+use Rattle.fallible_iterator.specs.Sound.{HintsHold, SoundWhere, above_as_source}
 
 -- ---- a `Peekable` looks ahead
 
@@ -177,5 +179,22 @@ module _ {S F X E : Type 0} (m : Contract S X E) (l : Lawful m) (looks : S → X
   kept_by_draw_peeking : (p : S × F) (r : Answered X E) (q : S × F) → PeekingHere.can_next p → PeekingHere.steps p r q → KeptByDraw PeekingHere p r q
   kept_by_draw_peeking p r q c w = subst (λ (a : Answered X E). KeptByDraw PeekingHere p a q) (sym w.3) (kept_by_draw_place w.0 p.0 q.0 p.1 q.1 c w.1 w.2)
 
+-- ---- where its hint is sound
+
+module _ {S F X E : Type 0} (steps : S → Answered X E → S → Type 0) (looks : S → X → S → Type 0) (call : F → X → Result Bool E → F → Type 0) where
+  yields_one_at_least : (z : Place X (Result Bool E) E) (p q : S) (y : X) → item y ≡ taken_answer z → DrawsAtPlace steps looks z p q → (xs : List X) × Yields steps p xs q × (1 ≤ length xs)
+  yields_one_at_least (asked x (Ok true)) p q y e d = (x ∷ [], (q, d, refl), omega arith)
+  yields_one_at_least (asked x (Ok false)) p q y e d = absurd cc
+  yields_one_at_least (asked x (Err c)) p q y e d = absurd cc
+  yields_one_at_least (failure_at c) p q y e d = absurd cc
+  yields_one_at_least end_at p q y e d = absurd cc
+
+  -- an item of it comes of one of the source
+  items_of_items_peeking : ItemsOfItems (peeking_step steps looks call) steps (λ p. p.0) (λ p. Unit {0})
+  items_of_items_peeking = record { items_of_item = λ p q y _ w. let d = yields_one_at_least w.0 p.0 q.0 y w.3 w.1 in (d.0, d.1, d.2, tt) }
+
+  peeking_hold : {hints : S → ℕ × Option ℕ → Type 0} {w : SoundWhere S} → HintsHold steps hints w → HintsHold (peeking_step steps looks call) (λ p h. (k : ℕ × Option ℕ) × hints p.0 k × (h ≡ (0, k.1))) (above_as_source (λ p. p.0) w)
+  peeking_hold {hints = hints} holds = hold_above_as_source (peeking_step steps looks call) (λ p h. (k : ℕ × Option ℕ) × hints p.0 k × (h ≡ (0, k.1))) holds (λ p. p.0) (λ p h is. (is.0, is.1, is.2, as_sound_upper_alone_of_source _ _ _ _ items_of_items_peeking p tt is.0 h is.2))
+
 pub lawful_peeking : {S F X E : Type 0} {m : Contract S X E} {looks : S → X → S → Type 0} (g : Mut F (Bor X × Unit {0}) (Result Bool E)) → Lawful m → LooksAhead m looks → Lawful (peeking_contract m looks g)
-lawful_peeking {m = m} {looks = looks} g l k = record { kept_by_draw = λ p r q c w. kept_by_draw_peeking m l looks k g p r q c w; bounded = λ p. l.bounded p.0; traced = peeking_traced k (call_by_reference g) l.traced; hold = own_hold }
+lawful_peeking {m = m} {looks = looks} g l k = record { kept_by_draw = λ p r q c w. kept_by_draw_peeking m l looks k g p r q c w; bounded = λ p. l.bounded p.0; traced = peeking_traced k (call_by_reference g) l.traced; hold = peeking_hold m.steps looks (call_by_reference g) l.hold }

@@ -5,7 +5,8 @@ use Rattle.fallible_iterator.specs.Traces.{Answered}
 use Rattle.fallible_iterator.specs.Contract.{Contract, Lawful}
 use Rattle.fallible_iterator.specs.Laws.Closures.{is_callable_after}
 use Rattle.fallible_iterator.specs.Passing.{IfItem}
-use Rattle.fallible_itertools_adapters.specs.Staging.{EndsInStop, IsStage, Emitted, items_of, emitted_total, stays_of, stop_comes}
+use Rattle.fallible_iterator.specs.Sound.{HintsHold, SoundWhere}
+use Rattle.fallible_itertools_adapters.specs.Staging.{EndsInStop, IsStage, Emitted, items_of, emitted_total, stage_step, stays_of, stop_comes}
 use Rattle.fallible_itertools_adapters.specs.Laws.Staging.{lawful_stage}
 use Rattle.fallible_itertools_adapters.specs.BeforeStop.{before_stop, held_one}
 use Rattle.fallible_itertools_adapters.specs.Plan.{Follows, HintPlan, IsTransition, Transition, Plan, bounded, calls, closure_contract, makes, passes, plan_can, plan_contract, plan_hint, plan_meets, plan_takes}
@@ -95,9 +96,9 @@ lawful_bounded {m = m} l = record {
   hold = l.hold;
 }
 
-module _ {S H F Q R X B L E : Type 0} {m : Contract S X E} (l : Lawful m) (comes : L → Option (Answered B E)) (call : F → Q → R → F → Type 0) (plan : H → X → Plan Q R (Transition H B L E)) (stops : H → Option E → Transition H B L E) (most : ℕ) (held : H → ℕ) (hint : H → Option L → HintPlan) (is : IsStage comes (plan_meets call plan stops) most (λ (p : H × F). held p.0)) where
-  pub lawful_plan : Lawful (plan_contract m comes call plan stops most held hint)
-  lawful_plan = lawful_stage l comes (plan_meets call plan stops) (λ P p. ⊤) most (λ p. held p.0) (plan_hint m hint) is (λ P K p q weak reached c. tt)
+module _ {S H F Q R X B L E : Type 0} {m : Contract S X E} (l : Lawful m) (comes : L → Option (Answered B E)) (call : F → Q → R → F → Type 0) (plan : H → X → Plan Q R (Transition H B L E)) (stops : H → Option E → Transition H B L E) (most : ℕ) (held : H → ℕ) (hint : H → Option L → HintPlan) (is : IsStage comes (plan_meets call plan stops) most (λ (p : H × F). held p.0)) (sound : SoundWhere (S × ((H × F) × Option L))) (holds : HintsHold (λ p r q. stage_step comes (plan_meets call plan stops) m.steps p r q) (plan_hint m hint) sound) where
+  pub lawful_plan : Lawful (plan_contract m comes call plan stops most held hint sound)
+  lawful_plan = lawful_stage l comes (plan_meets call plan stops) (λ P p. ⊤) most (λ p. held p.0) (plan_hint m hint) sound is (λ P K p q weak reached c. tt) holds
 
-  pub lawful_closure : (takes : F → Q → Type 0) → Lawful (closure_contract m comes call takes plan stops most held hint)
-  lawful_closure takes = lawful_stage l comes (plan_meets call plan stops) (plan_can call plan stops takes) most (λ p. held p.0) (plan_hint m hint) is (λ P K p q weak reached c. is_callable_after {pre = λ r a. IfItem (plan_takes takes plan r) a} weak reached c)
+  pub lawful_closure : (takes : F → Q → Type 0) → Lawful (closure_contract m comes call takes plan stops most held hint sound)
+  lawful_closure takes = lawful_stage l comes (plan_meets call plan stops) (plan_can call plan stops takes) most (λ p. held p.0) (plan_hint m hint) sound is (λ P K p q weak reached c. is_callable_after {pre = λ r a. IfItem (plan_takes takes plan r) a} weak reached c) holds

@@ -7,8 +7,8 @@ use Rattle.std.proofs.lemmas.Nat.{mul-le}
 use Rattle.fallible_iterator.specs.Traces.{Answered, item, failure}
 use Rattle.fallible_iterator.specs.Contract.{Contract, OnAnswer, KeptByDraw, KeptByDraws, Lawful}
 use Rattle.fallible_iterator.specs.Closures.{Reaches, MayAnswer}
+use Rattle.fallible_iterator.specs.Sound.{HintsHold, SoundWhere}
 use Rattle.fallible_iterator.specs.Laws.Contract.{kept_by_draws_of_one_draw, kept_by_draws_transitive}
-use Rattle.fallible_iterator.specs.Laws.Sound.{own_hold}
 use Rattle.fallible_iterator.specs.Laws.Closures.{reaches_reflexive, reaches_weaken, reaches_by_call_first, may_answer_of_call, may_answer_where_reached_may_answer}
 use Rattle.fallible_itertools_adapters.specs.Staging.{Emitted, DrawsUpTo, yields, passes_over, due_comes, due_left, items_of, stays_of, due_total, emitted_total, IsStage, IsDue, IsEmitted, MayMeet, MayCome, stage_contract}
 use Rattle.fallible_itertools_adapters.specs.Laws.Staged.{stage_traced}
@@ -54,12 +54,12 @@ module _ {L B E : Type 0} (comes : L → Option (Answered B E)) where
   is_due_before_where_due_left later r (Some a) d = absurd d
   is_due_before_where_due_left later r None d = d
 
-module _ {S P X D B L E : Type 0} {m : Contract S X D} (l : Lawful m) (comes : L → Option (Answered B E)) (meets : P → Answered X D → Emitted B L E → P → Type 0) (can : (Answered X D → Type 0) → P → Type 0) (most : ℕ) (held : P → ℕ) (hints : S × (P × Option L) → ℕ × Option ℕ → Type 0) (w : IsStage comes meets most held) (stays : (Q R : Answered X D → Type 0) (p q : P) → ((a : Answered X D) → R a → Q a) → Reaches meets Q p q → can Q p → can R q) where
+module _ {S P X D B L E : Type 0} {m : Contract S X D} (l : Lawful m) (comes : L → Option (Answered B E)) (meets : P → Answered X D → Emitted B L E → P → Type 0) (can : (Answered X D → Type 0) → P → Type 0) (most : ℕ) (held : P → ℕ) (hints : S × (P × Option L) → ℕ × Option ℕ → Type 0) (sound : SoundWhere (S × (P × Option L))) (w : IsStage comes meets most held) (stays : (Q R : Answered X D → Type 0) (p q : P) → ((a : Answered X D) → R a → Q a) → Reaches meets Q p q → can Q p → can R q) where
   abbrev State : Type 0
   State = S × (P × Option L)
 
   abbrev StageContract : Contract State B E
-  StageContract = stage_contract m comes meets can most held hints
+  StageContract = stage_contract m comes meets can most held hints sound
 
   -- Of each bound, with what is held, i less are left, and of what remains j less.
   record Spends (i j : ℕ) (s : S) (p : P) (t : S) (q : P) : Type 0 where
@@ -145,12 +145,12 @@ module _ {S P X D B L E : Type 0} {m : Contract S X D} (l : Lawful m) (comes : L
   kept_by_draw_stage (s, (p, None)) r (t, q) c step = kept_by_draw_drawn s t p r q c (came_of_draws s t p r q c.0 step)
   kept_by_draw_stage (s, (p, Some later)) r (t, q) c step = rw (step.0, step.1, step.2) (kept_by_draw_due s p later c)
 
-  pub lawful_stage : Lawful (stage_contract m comes meets can most held hints)
-  lawful_stage = record {
+  pub lawful_stage : HintsHold StageContract.steps hints sound → Lawful (stage_contract m comes meets can most held hints sound)
+  lawful_stage holds = record {
     kept_by_draw = kept_by_draw_stage;
     bounded = λ p. ((λ e. let k = (l.bounded p.0).0 e in (most * k.0 + held p.1.0 + due_total comes items_of p.1.1, (k.0, k.1, omega arith))), (λ h. (l.bounded p.0).1 ((h.1).0, (h.1).1)));
     traced = stage_traced comes meets m.steps l.traced;
-    hold = own_hold;
+    hold = holds;
   }
 
 -- ---- what holds in each state

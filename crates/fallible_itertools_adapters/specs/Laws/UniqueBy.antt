@@ -14,6 +14,8 @@ use Rattle.fallible_itertools_adapters.specs.Outcomes.{as_answered_item}
 use Rattle.fallible_itertools_adapters.specs.UniqueBy.{key_asks, key_callable, key_takes, unique_by_contract}
 use Rattle.std.specs.declared.alloc.AllocError.{AllocError}
 use Rattle.fallible_iterator.specs.Outcome.{Outcome}
+use Rattle.fallible_iterator.specs.Laws.Contract.{lawful_with_sound}
+use Rattle.fallible_iterator.specs.Laws.Hints.Passing.{upper_alone_hold}
 
 module _ {A K S F E : Type 0} (eq : K → K → Bool) (from : AllocError → E → Type 0) (call : F → A → Result K E → F → Type 0) {P : A → Type 0} where
   reaches_by_calls : (made : List (A × Outcome A E)) (p q : HashSet K S × F) → FoldsTo (λ p c q. P c.0 × key_asks eq from call p c.0 c.1 q) p made q → Reaches call P p.1 q.1
@@ -29,4 +31,4 @@ module _ {A K S F E : Type 0} (eq : K → K → Bool) (from : AllocError → E �
   is_callable_key c = record { at = λ q x r may. c.at q.1 x (reaches_closure r) may }
 
 pub lawful_unique_by : {I A K S F E : Type 0} {m : Contract I A E} (eq : K → K → Bool) (from : AllocError → E → Type 0) (g : Mut F (Bor A × Unit {0}) (Result K E)) → Lawful m → Lawful (unique_by_contract {S = S} eq from m g)
-lawful_unique_by {m = m} eq from g l = lawful_leaving_out (key_asks eq from (call_by_reference g)) (key_callable g) as_answered_item (λ p h. upper_alone m p.0 h) (λ P Q p q weak reached c. is_callable_after weak (reaches_closure eq from (call_by_reference g) reached) c) l
+lawful_unique_by {m = m} eq from g l = lawful_with_sound (upper_alone_hold (key_asks eq from (call_by_reference g)) as_answered_item l.hold) (lawful_leaving_out (key_asks eq from (call_by_reference g)) (key_callable g) as_answered_item (λ p h. upper_alone m p.0 h) (λ P Q p q weak reached c. is_callable_after weak (reaches_closure eq from (call_by_reference g) reached) c) l)

@@ -1,29 +1,12 @@
 // The laws of the adapter that copies what each item points to.
 ghost use Rattle.std.specs.Prelude.{List, Result};
 ghost use Rattle.std.specs.Borrow.{Bor};
-ghost use Rattle.fallible_iterator.specs.Ends.{from_back};
 ghost use Rattle.fallible_iterator.specs.Lists.{pointed_to};
-ghost use Rattle.fallible_iterator.specs.SoundHints.{KeepsBounds, HintsAsSoundAs};
+ghost use Rattle.fallible_iterator.specs.SoundHints.{KeepsBounds};
 ghost use Rattle.fallible_itertools_adapters.specs.Copied.{copied_source};
 
 use crate::copied::Copied;
-use fallible_iterator::{DoubleEndedFallibleIterator, FallibleIterator};
-
-/// Each hint of `Copied` is as sound as the hint of its source that it is made of.
-pub fn law_hints_copied<'a, T: Copy + 'a, I: FallibleIterator<Item = &'a T>>()
-where
-    ensures { (s : Copied I)
-        → HintsAsSoundAs ⟦<Copied<I> as FallibleIterator>⟧.contract s I.contract (copied_source s) }
-{}
-
-/// From the back each hint of `Copied` is as sound as the hint of its source that it is made of.
-pub fn law_hints_back_copied<'a, T: Copy + 'a, I: DoubleEndedFallibleIterator<Item = &'a T>>()
-where
-    ensures { (s : Copied I)
-        → HintsAsSoundAs (from_back ⟦<Copied<I> as FallibleIterator>⟧.contract
-        ⟦<Copied<I> as DoubleEndedFallibleIterator>⟧.ends) s
-        (from_back I.contract I.ends) (copied_source s) }
-{}
+use fallible_iterator::FallibleIterator;
 
 /// Each hint of `Copied` bounds its list wherever a hint of its source bounds the source's list.
 pub fn law_hints_listed_copied<'a, T: Copy + 'a, I: FallibleIterator<Item = &'a T>>()

@@ -4,14 +4,7 @@ ghost use Rattle.fallible_iterator.specs.Lists.{mapped};
 ghost use Rattle.fallible_itertools_adapters.specs.ChunkBy.{chunked_by};
 ghost use Rattle.fallible_itertools_adapters.specs.Dedup.{deduped};
 ghost use Rattle.fallible_itertools_adapters.specs.DedupBy.{deduped_by};
-ghost use Rattle.fallible_itertools_adapters.specs.DedupByWithCount.{dedup_by_with_count_due, dedup_by_with_count_source};
-ghost use Rattle.fallible_itertools_adapters.specs.DedupWithCount.{dedup_with_count_due, dedup_with_count_source};
-ghost use Rattle.fallible_itertools_adapters.specs.BeforeStop.{HintsWhereHeld};
 ghost use Rattle.fallible_itertools_adapters.specs.RunCounts.{deduped_by_with_count, deduped_with_count, first_once_more};
-
-use crate::dedup_by_with_count::DedupByWithCount;
-use crate::dedup_with_count::DedupWithCount;
-use fallible_iterator::FallibleIterator;
 
 /// Each item is beside the number of items of the group that it begins, as `chunked_by` makes groups of equal items; a number above `usize::MAX` is that one. It is `deduped_by_with_count` by the equality. Without the numbers it is what `dedup` yields. A failure parts a list: what stands before it is counted by itself, and so is what comes after it.
 pub fn law_deduped_with_count<T: PartialEq, E>()
@@ -26,14 +19,6 @@ pub fn law_deduped_with_count<T: PartialEq, E>()
         (chunked_by T.eq (λ x. Ok x) l) }
     ensures items { (l : List (Result T E))
         → mapped (λ p. Ok p.1) (deduped_with_count T.eq l) ≡ deduped T.eq l }
-{}
-
-/// Each hint of `DedupWithCount` is as sound as the hint of its source that it is made of; if a stop is due it is sound by itself, and if that is a failure it is that of what comes after it.
-pub fn law_hints_dedup_with_count<I: FallibleIterator>()
-where
-    I::Item: PartialEq + Drop,
-    I::Error: Drop,
-    ensures { HintsWhereHeld ⟦<DedupWithCount<I> as FallibleIterator>⟧.contract dedup_with_count_due I.contract dedup_with_count_source }
 {}
 
 /// Of two items that are the same, the second is counted with the first; of two others the first is beside 1. Nothing is made of an empty list, and of one item that item beside 1. Where the closure fails on two, the first comes and then its failure, in the place of the second. Without the numbers it is what `dedup_by` yields. A failure parts a list: what stands before it is counted by itself, and so is what comes after it.
@@ -58,15 +43,4 @@ pub fn law_deduped_by_with_count<T, E>()
         ≡ deduped_by_with_count h a ++ Err e ∷ deduped_by_with_count h b }
     ensures items { (h : T → T → Result Bool E) (l : List (Result T E))
         → mapped (λ p. Ok p.1) (deduped_by_with_count h l) ≡ deduped_by h l }
-{}
-
-/// Each hint of `DedupByWithCount` is as sound as the hint of its source that it is made of; if a stop is due it is sound by itself, and if that is a failure it is that of what comes after it.
-pub fn law_hints_dedup_by_with_count<
-    I: FallibleIterator,
-    F: FnMut(&I::Item, &I::Item) -> Result<bool, I::Error>,
->()
-where
-    I::Item: Drop,
-    I::Error: Drop,
-    ensures { HintsWhereHeld ⟦<DedupByWithCount<I, F> as FallibleIterator>⟧.contract dedup_by_with_count_due I.contract dedup_by_with_count_source }
 {}

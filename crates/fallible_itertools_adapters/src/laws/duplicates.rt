@@ -3,13 +3,7 @@ ghost use Rattle.std.specs.Prelude.{◌≡◌, ◌++◌, ◌∷◌, ◌≤◌, D
 ghost use Rattle.std.specs.List.{IsDistinct, count_by};
 ghost use Rattle.std.specs.Set.{is_member};
 ghost use Rattle.fallible_iterator.specs.BothEnds.{failures_listed, items_listed};
-ghost use Rattle.fallible_iterator.specs.SoundHints.{HintsAsSoundAs};
-ghost use Rattle.fallible_itertools_adapters.specs.Duplicates.{duplicates_of, duplicates_source};
-
-use crate::duplicates::Duplicates;
-use fallible_iterator::FallibleIterator;
-use std::alloc::AllocError;
-use std::hash::Hash;
+ghost use Rattle.fallible_itertools_adapters.specs.Duplicates.{duplicates_of};
 
 /// An item is listed exactly if two items of the list or more equal it, and no item that is listed equals another. An item at the end of the list is listed if exactly one before it equals it, and each failure is, in their order: the list with one more item or failure at its end lists that after the others.
 pub fn law_duplicates_of<T: Eq, E>()
@@ -27,14 +21,4 @@ pub fn law_duplicates_of<T: Eq, E>()
         (duplicates_of T.eq l ++ Ok x ∷ []) (duplicates_of T.eq l) }
     ensures failure_last { (l : List (Result T E)) (e : E)
         → duplicates_of T.eq (l ++ Err e ∷ []) ≡ duplicates_of T.eq l ++ Err e ∷ [] }
-{}
-
-/// Each hint of `Duplicates` is as sound as the hint of its source that it is made of.
-pub fn law_hints_duplicates<I: FallibleIterator>()
-where
-    I::Item: Drop + Eq + Hash,
-    I::Error: From<AllocError>,
-    ensures { (s : Duplicates I I.Item I.Error)
-        → HintsAsSoundAs ⟦<Duplicates<I> as FallibleIterator>⟧.contract s I.contract
-        (duplicates_source s) }
 {}

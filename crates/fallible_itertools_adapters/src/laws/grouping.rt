@@ -3,14 +3,8 @@ ghost use Rattle.std.specs.Prelude.{◌≡◌, ℕ, ◌<◌, ◌++◌, ◌∷◌
 ghost use Rattle.fallible_iterator.specs.BothEnds.{items_listed, failures_listed};
 ghost use Rattle.fallible_iterator.specs.Lists.{items};
 ghost use Rattle.fallible_itertools_adapters.specs.Adjacent.{AdjacentItems, IsGroup};
-ghost use Rattle.fallible_itertools_adapters.specs.ChunkBy.{chunk_by_due, chunk_by_source, chunked_by};
-ghost use Rattle.fallible_itertools_adapters.specs.Chunks.{BatchesOf, BatchesUpTo, chunked, chunks_due, chunks_source, batches_joined};
-ghost use Rattle.fallible_itertools_adapters.specs.BeforeStop.{HintsWhereHeld};
-
-use crate::chunk_by::ChunkBy;
-use crate::chunks::Chunks;
-use fallible_iterator::FallibleIterator;
-use std::alloc::AllocError;
+ghost use Rattle.fallible_itertools_adapters.specs.ChunkBy.{chunked_by};
+ghost use Rattle.fallible_itertools_adapters.specs.Chunks.{BatchesOf, BatchesUpTo, chunked, batches_joined};
 
 /// The first n items are a batch, and fewer at the end are the last one. The batches of a list joined are its items, each batch has some and at most n, and the failures are the list's. What stands before a failure is batched by itself, and so is what comes after it. A batch that another one follows has n items. If nothing fails, each batch but the last has n items.
 pub fn law_chunked<T, E>()
@@ -31,14 +25,6 @@ pub fn law_chunked<T, E>()
         → failures_listed (chunked n l) ≡ failures_listed l }
     ensures parts { (n : ℕ) (a : List (Result T E)) (e : E) (b : List (Result T E))
         → chunked n (a ++ Err e ∷ b) ≡ chunked n a ++ Err e ∷ chunked n b }
-{}
-
-/// Each hint of `Chunks` is as sound as the hint of its source that it is made of; if a stop is due it is sound by itself, and if that is a failure it is that of what comes after it.
-pub fn law_hints_chunks<I: FallibleIterator>()
-where
-    I::Item: Drop,
-    I::Error: Drop + From<AllocError>,
-    ensures { HintsWhereHeld ⟦<Chunks<I> as FallibleIterator>⟧.contract chunks_due I.contract chunks_source }
 {}
 
 /// The first items are a group, up to one whose key doesn't equal that of the first. The groups of a list joined are its items, if each item has a key. The key of a group is that of its first item, and those of its other items equal it. The keys of adjacent groups differ, unless a failure stands between. An item whose key fails is that failure in its place. What stands before a failure is grouped by itself, and so is what comes after it.
@@ -62,14 +48,4 @@ pub fn law_chunked_by<T, K: PartialEq, E>()
     ensures parts { (h : T → Result K E) (a : List (Result T E)) (e : E) (b : List (Result T E))
         → chunked_by K.eq h (a ++ Err e ∷ b)
         ≡ chunked_by K.eq h a ++ Err e ∷ chunked_by K.eq h b }
-{}
-
-/// Each hint of `ChunkBy` is as sound as the hint of its source that it is made of; if a stop is due it is sound by itself, and if that is a failure it is that of what comes after it.
-pub fn law_hints_chunk_by<I: FallibleIterator, K, F>()
-where
-    K: PartialEq + Drop,
-    F: FnMut(&I::Item) -> Result<K, I::Error>,
-    I::Item: Drop,
-    I::Error: Drop + From<AllocError>,
-    ensures { HintsWhereHeld ⟦<ChunkBy<I, K, F> as FallibleIterator>⟧.contract chunk_by_due I.contract chunk_by_source }
 {}

@@ -1,28 +1,35 @@
 // The laws of the adapters that buffer.
-ghost use Rattle.std.specs.Prelude.{◌≡◌, ◌++◌, ◌∷◌, Bool, true, false, List, Result, Ok, Err, [], map};
-ghost use Rattle.fallible_iterator.specs.SoundHints.{HintsAsSoundAs};
+ghost use Rattle.std.specs.Prelude.{◌≡◌, ℕ, ◌++◌, ◌∷◌, Bool, Option, Some, true, false, List, Result, Ok, Err, [], map};
 ghost use Rattle.fallible_iterator.specs.Lists.{filter_mapped, items, nth_of};
 ghost use Rattle.fallible_itertools_adapters.specs.Adjacent.{AdjacentItems, HaveKeys};
+ghost use Rattle.fallible_itertools_adapters.specs.BeforeStop.{HintsPastFailure, hint_unless_end};
 ghost use Rattle.fallible_itertools_adapters.specs.ChunkBy.{chunked_by};
-ghost use Rattle.fallible_itertools_adapters.specs.Coalesce.{KeepsApart, OneOrBoth, coalesce_due, coalesce_source, coalesced};
-ghost use Rattle.fallible_itertools_adapters.specs.DedupBy.{dedup_by_due, dedup_by_source, deduped_by};
-ghost use Rattle.fallible_itertools_adapters.specs.DedupByKey.{dedup_by_key_due, dedup_by_key_source, deduped_by_key};
-ghost use Rattle.fallible_itertools_adapters.specs.Dedup.{dedup_due, dedup_source, deduped};
-ghost use Rattle.fallible_itertools_adapters.specs.BeforeStop.{HintsWhereHeld};
-ghost use Rattle.fallible_itertools_adapters.specs.TupleWindows.{tuple_windows_source};
-ghost use Rattle.fallible_itertools_adapters.specs.Tuples.{tuples_source};
-ghost use Rattle.fallible_itertools_adapters.specs.WithPosition.{positioned, with_position_due, with_position_source};
+ghost use Rattle.fallible_itertools_adapters.specs.Coalesce.{KeepsApart, OneOrBoth, coalesced};
+ghost use Rattle.fallible_itertools_adapters.specs.DedupBy.{deduped_by};
+ghost use Rattle.fallible_itertools_adapters.specs.DedupByKey.{deduped_by_key};
+ghost use Rattle.fallible_itertools_adapters.specs.Dedup.{deduped};
+ghost use Rattle.fallible_itertools_adapters.specs.Plan.{HintPlan, plan_hint};
+ghost use Rattle.fallible_itertools_adapters.specs.Staging.{stage_meets, stage_step, stop_comes};
+ghost use Rattle.fallible_itertools_adapters.specs.WithPosition.{positioned};
 ghost use Rattle.fallible_itertools_adapters.specs.declared.with_position.Position.TheVariants.{First, Last, Middle, Only};
 
-use crate::coalesce::Coalesce;
-use crate::dedup::Dedup;
-use crate::dedup_by::DedupBy;
-use crate::dedup_by_key::DedupByKey;
-use crate::tuple_windows::TupleWindows;
-use crate::tuples::Tuples;
-use crate::with_position::WithPosition;
+use crate::staging::{Stage, Stop};
 use fallible_iterator::FallibleIterator;
-use std::alloc::AllocError;
+
+/// Where a failure is due, each hint of an adapter that buffers, whose hint is by `hint_unless_end`, is one of what comes after it.
+pub fn law_hints_past_failure<
+    I: FallibleIterator,
+    H,
+    F,
+    G: Stage<(H, F), I::Item, I::Error, Due = Stop<I::Error>>,
+>()
+where
+    ensures { (stage : G) (hint : H → HintPlan) (s : I × ((H × F) × Option (Option I.Error)))
+        (e : I.Error) → s.1.1 ≡ Some (Some e)
+        → HintsPastFailure (stage_step {B = G.Kept} stop_comes
+        (stage_meets (G.items stage) (G.stops stage)) I.contract.steps)
+        (plan_hint I.contract (λ h due. hint_unless_end (hint h) due)) s e }
+{}
 
 /// Of two equal items that stand next to each other the first one is kept. A failure stands in its place. So no item equals the next one, unless a failure stands between. Each item is its own key, as `deduped_by_key` has it. A failure parts a list: what stands before it is deduped by itself, and so is what comes after it.
 pub fn law_deduped<T: PartialEq, E>()
@@ -42,14 +49,6 @@ pub fn law_deduped<T: PartialEq, E>()
         → AdjacentItems (λ x y. T.eq x y ≡ false) (deduped T.eq l) }
     ensures by_key { (l : List (Result T E))
         → deduped T.eq l ≡ deduped_by_key T.eq (λ x. Ok x) l }
-{}
-
-/// Each hint of `Dedup` is as sound as the hint of its source that it is made of; if a stop is due it is sound by itself, and if that is a failure it is that of what comes after it.
-pub fn law_hints_dedup<I: FallibleIterator>()
-where
-    I::Item: PartialEq + Drop,
-    I::Error: Drop,
-    ensures { HintsWhereHeld ⟦<Dedup<I> as FallibleIterator>⟧.contract dedup_due I.contract dedup_source }
 {}
 
 /// Two items that the closure merges are the one that it makes of them. Of two that it keeps apart the first one is kept, and the second one goes on. If the closure fails on two, both are lost, and its failure comes. A failure parts a list: what stands before it is merged by itself, and so is what comes after it. The closure keeps each two adjacent results apart, if it hands what it keeps apart back as it is, and what it makes of the second of two and a later item is still apart from the first; unless a failure stands between.
@@ -72,17 +71,6 @@ pub fn law_coalesced<T, E>()
         → AdjacentItems (λ x y. h x y ≡ Ok (Err (x, y))) (coalesced h l) }
 {}
 
-/// Each hint of `Coalesce` is as sound as the hint of its source that it is made of; if a stop is due it is sound by itself, and if that is a failure it is that of what comes after it.
-pub fn law_hints_coalesce<
-    I: FallibleIterator,
-    F: FnMut(I::Item, I::Item) -> Result<Result<I::Item, (I::Item, I::Item)>, I::Error>,
->()
-where
-    I::Item: Drop,
-    I::Error: Drop,
-    ensures { HintsWhereHeld ⟦<Coalesce<I, F> as FallibleIterator>⟧.contract coalesce_due I.contract coalesce_source }
-{}
-
 /// Of two items that the closure finds the same the first one is kept. If the closure fails on two, the first one is kept, and its failure stands in the place of the second one. A failure parts a list: what stands before it is deduped by itself, and so is what comes after it. The closure finds that each item differs from the next one, unless a failure stands between.
 pub fn law_deduped_by<T, E>()
     ensures none { (h : T → T → Result Bool E) → deduped_by h [] ≡ [] }
@@ -101,17 +89,6 @@ pub fn law_deduped_by<T, E>()
         → deduped_by h (a ++ Err e ∷ b) ≡ deduped_by h a ++ Err e ∷ deduped_by h b }
     ensures adjacent { (h : T → T → Result Bool E) (l : List (Result T E))
         → AdjacentItems (λ x y. h x y ≡ Ok false) (deduped_by h l) }
-{}
-
-/// Each hint of `DedupBy` is as sound as the hint of its source that it is made of; if a stop is due it is sound by itself, and if that is a failure it is that of what comes after it.
-pub fn law_hints_dedup_by<
-    I: FallibleIterator,
-    F: FnMut(&I::Item, &I::Item) -> Result<bool, I::Error>,
->()
-where
-    I::Item: Drop,
-    I::Error: Drop,
-    ensures { HintsWhereHeld ⟦<DedupBy<I, F> as FallibleIterator>⟧.contract dedup_by_due I.contract dedup_by_source }
 {}
 
 /// Of two items that stand next to each other and have equal keys the first one is kept. Where the closure fails, its failure stands in the place of the item. So the key of no item equals that of the next one, unless a failure stands between. The items are the first ones of the groups that `chunked_by` makes. A failure parts a list: what stands before it is deduped by itself, and so is what comes after it.
@@ -142,37 +119,6 @@ pub fn law_deduped_by_key<T, K: PartialEq, E>()
         ≡ filter_mapped (λ g. nth_of 0 (items g.1)) (chunked_by K.eq h l) }
 {}
 
-/// Each hint of `DedupByKey` is as sound as the hint of its source that it is made of; if a stop is due it is sound by itself, and if that is a failure it is that of what comes after it.
-pub fn law_hints_dedup_by_key<
-    I: FallibleIterator,
-    K: PartialEq + Drop,
-    F: FnMut(&I::Item) -> Result<K, I::Error>,
->()
-where
-    I::Item: Drop,
-    I::Error: Drop,
-    ensures { HintsWhereHeld ⟦<DedupByKey<I, K, F> as FallibleIterator>⟧.contract dedup_by_key_due I.contract dedup_by_key_source }
-{}
-
-/// Each hint of `TupleWindows` is as sound as the hint of its source that it is made of.
-pub fn law_hints_tuple_windows<I: FallibleIterator>()
-where
-    I::Item: Clone + Drop,
-    I::Error: From<AllocError>,
-    ensures { (s : TupleWindows I I.Item I.Error)
-        → HintsAsSoundAs ⟦<TupleWindows<I> as FallibleIterator>⟧.contract s I.contract
-        (tuple_windows_source s) }
-{}
-
-/// Each hint of `Tuples` is as sound as the hint of its source that it is made of.
-pub fn law_hints_tuples<I: FallibleIterator>()
-where
-    I::Item: Drop,
-    ensures { (s : Tuples I I.Item I.Error)
-        → HintsAsSoundAs ⟦<Tuples<I> as FallibleIterator>⟧.contract s I.contract
-        (tuples_source s) }
-{}
-
 /// An item alone is `Only`; of several items the first is `First`, the last is `Last`, and the others are `Middle`. Nothing is made of an empty list. A failure parts a list: the items before it have their positions by themselves, and so do those after it.
 pub fn law_positioned<T, E>()
     ensures parts { (a : List (Result T E)) (e : E) (b : List (Result T E))
@@ -182,12 +128,4 @@ pub fn law_positioned<T, E>()
         ≡ Ok (First, x) ∷ map (λ z. Ok (Middle, z)) a ++ Ok (Last, y) ∷ [] }
     ensures one { (x : T) → positioned {E = E} (Ok x ∷ []) ≡ Ok (Only, x) ∷ [] }
     ensures none { positioned {A = T} {E = E} [] ≡ [] }
-{}
-
-/// Each hint of `WithPosition` is as sound as the hint of its source that it is made of; if a stop is due it is sound by itself, and if that is a failure it is that of what comes after it.
-pub fn law_hints_with_position<I: FallibleIterator>()
-where
-    I::Item: Drop,
-    I::Error: Drop,
-    ensures { HintsWhereHeld ⟦<WithPosition<I> as FallibleIterator>⟧.contract with_position_due I.contract with_position_source }
 {}

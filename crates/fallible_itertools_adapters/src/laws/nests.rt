@@ -1,18 +1,15 @@
-//! The headline of a nest of these adapters, with the definition of each type written out.
-ghost use Rattle.std.specs.Prelude.{ℕ, Option, Result, Bool, List, ◌↔◌};
-ghost use Rattle.std.specs.Borrow.{Bor};
+//! The headline of a nest of these adapters, by the definition of each type.
+ghost use Rattle.std.specs.Prelude.{ℕ, Option, Result, List, ◌↔◌};
 ghost use Rattle.fallible_iterator.specs.Closures.{call_by_value};
-ghost use Rattle.fallible_iterator.specs.Exchange.{traces_exchanged};
-ghost use Rattle.fallible_iterator.specs.Failing.{replaces_all, outcome_exchanged};
 ghost use Rattle.fallible_iterator.specs.OneToOne.Enumerate.{enumerate_parts, numbers_all};
 ghost use Rattle.fallible_iterator.specs.OneToOne.Map.{map_outcome, map_parts};
 ghost use Rattle.fallible_iterator.specs.Passing.{passes_all};
 ghost use Rattle.fallible_iterator.specs.Traces.{Answered, Run};
-ghost use Rattle.fallible_itertools_adapters.specs.Copied.{copied_call, copied_outcome, copied_parts};
-ghost use Rattle.fallible_itertools_adapters.specs.ErrInto.{convert_call, err_into_parts};
-ghost use Rattle.fallible_itertools_adapters.specs.InspectErr.{inspect_err_parts, seen_call};
-ghost use Rattle.fallible_itertools_adapters.specs.OrElse.{or_else_outcome, or_else_parts};
-ghost use Rattle.fallible_itertools_adapters.specs.Positions.{item_call, positions_outcome, positions_parts};
+ghost use Rattle.fallible_itertools_adapters.specs.Copied.{CopiedTrace, copied_parts};
+ghost use Rattle.fallible_itertools_adapters.specs.ErrInto.{ErrIntoTrace, err_into_parts};
+ghost use Rattle.fallible_itertools_adapters.specs.InspectErr.{InspectErrTrace, inspect_err_parts};
+ghost use Rattle.fallible_itertools_adapters.specs.OrElse.{OrElseTrace, or_else_parts};
+ghost use Rattle.fallible_itertools_adapters.specs.Positions.{PositionsTrace, positions_parts};
 
 use crate::copied::Copied;
 use crate::err_into::ErrInto;
@@ -22,7 +19,7 @@ use crate::positions::Positions;
 use fallible_iterator::laws::law_headline;
 use fallible_iterator::{FallibleIterator, Map};
 
-/// The headline of `it.copied().map(f).inspect_err(g).err_into().or_else(h).positions(p)`, over every source, with the definitions written out. Read from the inside: what `it` returns is copied, and that is mapped; of that each failure is shown to g, then converted, and then becomes an item, nothing or another failure by h; that is numbered, and of the items that p is true of the numbers are returned.
+/// The headline of `it.copied().map(f).inspect_err(g).err_into().or_else(h).positions(p)`, over every source, by the definition of each type. Read from the inside: what `it` returns is copied, and that is mapped; of that each failure is shown to g, then converted, and then becomes an item, nothing or another failure by h; that is numbered, and of the items that p is true of the numbers are returned.
 pub fn law_nest_of_six<
     'a,
     T: Copy + 'a,
@@ -40,18 +37,16 @@ where
         (trace : List (Answered ℕ E))
         (t : Positions (OrElse (ErrInto (InspectErr (Map (Copied I) F) G) D) H) P)
         → Run ⟦<Positions<OrElse<ErrInto<InspectErr<Map<Copied<I>, F>, G>, D>, H>, P> as FallibleIterator>⟧.contract.steps s trace t
-        ↔ passes_all (λ k numbered l. numbers_all (λ i recovered j.
-        traces_exchanged (passes_all (traces_exchanged (λ g converted h.
-        replaces_all (λ e inspected f. replaces_all (λ c mapped d. passes_all (λ a copied b.
-        passes_all I.contract.traces copied_call copied_outcome
-        (copied_parts a) copied (copied_parts b))
+        ↔ PositionsTrace (λ k numbered l. numbers_all (λ i recovered j.
+        OrElseTrace (λ g converted h. ErrIntoTrace D.from_gives
+        (λ e inspected f. InspectErrTrace (λ c mapped d. passes_all (λ a copied b.
+        CopiedTrace I.contract.traces (copied_parts a) copied (copied_parts b))
         (call_by_value F.FnMut) map_outcome (map_parts c) mapped (map_parts d))
-        (seen_call G.FnMut) (inspect_err_parts e) inspected (inspect_err_parts f))
-        (convert_call D.from_gives) (err_into_parts g) converted (err_into_parts h)))
-        (call_by_value H.FnMut) (λ e v. outcome_exchanged (or_else_outcome e v)))
-        (or_else_parts i) recovered (or_else_parts j))
+        G.FnMut (inspect_err_parts e) inspected (inspect_err_parts f))
+        (err_into_parts g) converted (err_into_parts h))
+        H.FnMut (or_else_parts i) recovered (or_else_parts j))
         (enumerate_parts k) numbered (enumerate_parts l))
-        (item_call P.FnMut) positions_outcome (positions_parts s) trace (positions_parts t) }
+        P.FnMut (positions_parts s) trace (positions_parts t) }
 {
     law_headline::<Positions<OrElse<ErrInto<InspectErr<Map<Copied<I>, F>, G>, D>, H>, P>>();
 }

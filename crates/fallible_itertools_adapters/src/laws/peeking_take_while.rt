@@ -2,20 +2,11 @@
 ghost use Rattle.std.specs.Prelude.{[], ◌∷◌, ◌++◌, Bool, IfSome, List, Result, map};
 ghost use Rattle.fallible_iterator.specs.Closures.{call_by_reference};
 ghost use Rattle.fallible_iterator.specs.Lists.{Acts, Lists, result_answer, taken_while};
-ghost use Rattle.fallible_iterator.specs.SoundHints.{HintsAsSoundAs};
 ghost use Rattle.fallible_iterator.specs.Traces.{Run, end};
 ghost use Rattle.fallible_itertools_adapters.specs.PeekingTakeWhile.{rest_by_while, peeking_closure, peeking_source};
 
 use crate::peeking_take_while::{PeekingNext, PeekingTakeWhile};
 use fallible_iterator::FallibleIterator;
-
-/// Each hint of `PeekingTakeWhile` is as sound as the hint of its source that it is made of.
-pub fn law_hints_peeking_take_while<P: PeekingNext, F: FnMut(&P::Item) -> Result<bool, P::Error>>()
-where
-    ensures { (s : PeekingTakeWhile P F)
-        → HintsAsSoundAs ⟦<PeekingTakeWhile<P, F> as FallibleIterator>⟧.contract s P.contract
-        (peeking_source s) }
-{}
 
 /// What `PeekingTakeWhile` leaves: over a source that lists l, with a closure that acts as h, draws up to `Ok(None)` at a rejected item leave a source that lists that item and what comes after it.
 pub fn law_rest_peeking_take_while<P: PeekingNext, F: FnMut(&P::Item) -> Result<bool, P::Error>>()

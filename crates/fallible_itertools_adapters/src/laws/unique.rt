@@ -3,16 +3,9 @@ ghost use Rattle.std.specs.Prelude.{◌≡◌, ◌++◌, ◌∷◌, Err, List, O
 ghost use Rattle.std.specs.List.{IsDistinct, find};
 ghost use Rattle.std.specs.Set.{is_member};
 ghost use Rattle.fallible_iterator.specs.BothEnds.{failures_listed, items_listed};
-ghost use Rattle.fallible_iterator.specs.SoundHints.{HintsAsSoundAs};
-ghost use Rattle.fallible_itertools_adapters.specs.Unique.{unique_of, unique_source};
+ghost use Rattle.fallible_itertools_adapters.specs.Unique.{unique_of};
 ghost use Rattle.fallible_iterator.specs.Lists.{mapped};
-ghost use Rattle.fallible_itertools_adapters.specs.UniqueBy.{has_key, unique_by_key, unique_by_source};
-
-use crate::unique::Unique;
-use crate::unique_by::UniqueBy;
-use fallible_iterator::FallibleIterator;
-use std::alloc::AllocError;
-use std::hash::Hash;
+ghost use Rattle.fallible_itertools_adapters.specs.UniqueBy.{has_key, unique_by_key};
 
 /// An item is yielded if no item before it equals it, and each failure is, in their order: of a list with one more item or failure at its end it is that of the list, and that item or failure. So no item equals another. The first item of the list that equals any given one is still the first. The failures are the list's.
 pub fn law_unique_of<T: Eq, E>()
@@ -28,16 +21,6 @@ pub fn law_unique_of<T: Eq, E>()
         (unique_of T.eq l ++ Ok x ∷ []) }
     ensures failure_last { (l : List (Result T E)) (e : E)
         → unique_of T.eq (l ++ Err e ∷ []) ≡ unique_of T.eq l ++ Err e ∷ [] }
-{}
-
-/// Each hint of `Unique` is as sound as the hint of its source that it is made of.
-pub fn law_hints_unique<I: FallibleIterator>()
-where
-    I::Item: Clone + Drop + Eq + Hash,
-    I::Error: From<AllocError>,
-    ensures { (s : Unique I I.Item I.Error)
-        → HintsAsSoundAs ⟦<Unique<I> as FallibleIterator>⟧.contract s I.contract
-        (unique_source s) }
 {}
 
 /// The keys of the items that are yielded are those of the list's items, each that equals none before it, and the failures, in their order: what `unique_of` is of the list with the keys in the items' places. So no key equals another. The first item of the list that has any given key is still the first. An item on which the closure fails is replaced by that failure, and each failure stays. An item at the end of the list is yielded if its key equals none before it.
@@ -61,18 +44,4 @@ pub fn law_unique_by_of<T, K: Eq, E>()
         → unique_by_key K.eq h (l ++ Ok x ∷ []) ≡ unique_by_key K.eq h l ++ Err e ∷ [] }
     ensures failure_last { (h : T → Result K E) (l : List (Result T E)) (e : E)
         → unique_by_key K.eq h (l ++ Err e ∷ []) ≡ unique_by_key K.eq h l ++ Err e ∷ [] }
-{}
-
-/// Each hint of `UniqueBy` is as sound as the hint of its source that it is made of.
-pub fn law_hints_unique_by<
-    I: FallibleIterator,
-    K: Eq + Hash + Drop,
-    F: FnMut(&I::Item) -> Result<K, I::Error>,
->()
-where
-    I::Item: Drop,
-    I::Error: From<AllocError>,
-    ensures { (s : UniqueBy I K F)
-        → HintsAsSoundAs ⟦<UniqueBy<I, K, F> as FallibleIterator>⟧.contract s I.contract
-        (unique_by_source s) }
 {}

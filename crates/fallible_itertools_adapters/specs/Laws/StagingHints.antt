@@ -2,8 +2,8 @@
 use Rattle.std.specs.Prelude.{◌≡◌, ℕ, suc, ◌+◌, ◌-◌, ◌≤◌, ⊤, IfSome, Option, Some, None, Ok, Err, List, [], ◌∷◌, length}
 use Rattle.std.proofs.Common.{refl, sym, ap, subst, arith, ◌∙◌}
 use Rattle.fallible_iterator.specs.Traces.{Answered, Yields, item, failure, end}
-use Rattle.fallible_iterator.specs.SoundHints.{BoundsAbove, BoundsBelow}
-use Rattle.fallible_iterator.proofs.Lemmas.Hints.Drawn.{if_some_at_least_of_smaller}
+use Rattle.fallible_iterator.specs.Sound.{BoundsAbove, BoundsBelow}
+use Rattle.fallible_iterator.specs.Laws.Hints.Drawn.{brackets_any_lower_where_no_end, brackets_zero_where_no_item, if_some_at_least_of_smaller}
 use Rattle.fallible_itertools_adapters.specs.Staging.{DrawsUpTo, EndsInStop, IsStage, IsStop, Emitted, due_comes, due_left, due_total, items_of, emitted_total, passes_over, stage_step, yields}
 use Rattle.fallible_itertools_adapters.specs.Laws.Staging.{due_total_of_due_left_is_zero}
 
@@ -23,6 +23,11 @@ module _ {B L E : Type 0} (comes : L → Option (Answered B E)) where
   EmittedFew (Some (Ok (Some y), due)) after before = DueFew due after (λ n. before (suc n))
   EmittedFew (Some (Ok None, due)) after before = before 0
   EmittedFew (Some (Err e, due)) after before = ⊤
+
+-- what is due is a stop
+abbrev pub StopIsDue : {B L E : Type 0} → (L → Option (Answered B E)) → Option L → Type 0
+StopIsDue comes None = ⊥
+StopIsDue comes (Some later) = IsStop (due_comes (comes later))
 
 pub no_items_of_stop : {X E : Type 0} (a : Answered X E) → IsStop a → items_of a ≡ 0
 no_items_of_stop (Ok (Some x)) stop = absurd stop
@@ -123,3 +128,28 @@ module _ {S P X B L E : Type 0} (steps : S → Answered X E → S → Type 0) (c
 
     pub bounds_below_staged : (low least : ℕ) (s : S) (p : P) (due : Option L) → DueFew comes due (λ n. Few p low n) (λ n. least ≤ n) → BoundsBelow steps s low → BoundsBelow Steps (s, (p, due)) least
     bounds_below_staged low least s p due more below = λ ys t u ran last. due_few_holds_at_length_of_run ys s p due t u low (λ n. least ≤ n) ran last below more
+
+  -- ---- where a stop is due
+
+  module _ (s : S) (p : P) (later : L) where
+    -- no item comes of it
+    no_item_of_stop : IsStop (due_comes (comes later)) → (y : B) (t : State) → Steps (s, (p, Some later)) (item y) t → ⊥
+    no_item_of_stop stop y t w = (rw (sym w.0) at stop)
+
+    zero_bounded : (o : Option ℕ) → IfSome o (λ n. 0 ≤ n)
+    zero_bounded None = tt
+    zero_bounded (Some n) = omega arith
+
+    -- so each upper bound is sound
+    pub bounds_above_where_stop_due : (o : Option ℕ) → IsStop (due_comes (comes later)) → BoundsAbove Steps (s, (p, Some later)) o
+    bounds_above_where_stop_due o stop ys t ran = if_some_at_least_of_smaller o (length ys) 0 ((brackets_zero_where_no_item Steps (s, (p, Some later)) (no_item_of_stop stop)).above ys t ran) (zero_bounded o)
+
+    no_end_where_failure_due : (e : E) → due_comes (comes later) ≡ failure e → (ys : List B) (t u : State) → Yields Steps (s, (p, Some later)) ys t → Steps t end u → ⊥
+    no_end_where_failure_due e is [] t u ran step = let w : Steps (s, (p, Some later)) end u = subst (λ (v : State). Steps v end u) (sym ran) step in let other = w.0 ∙ is in cc
+    no_end_where_failure_due e is (y ∷ ys) t u ran step = let w = ran.1 in let other = w.0 ∙ is in cc
+
+    -- and each lower one where that is a failure, and 0 at an end
+    pub bounds_below_where_stop_due : (low : ℕ) (r : Answered B E) → due_comes (comes later) ≡ r → IsStop r → (r ≡ end → low ≤ 0) → BoundsBelow Steps (s, (p, Some later)) low
+    bounds_below_where_stop_due low (Ok (Some y)) is stop none = absurd stop
+    bounds_below_where_stop_due low (Ok None) is stop none = λ ys t u ran step. let few = none refl in omega (arith, few)
+    bounds_below_where_stop_due low (Err e) is stop none = (brackets_any_lower_where_no_end Steps (s, (p, Some later)) low (λ ys t u ran step. no_end_where_failure_due e is ys t u ran step)).below

@@ -1,19 +1,14 @@
 -- The hint of `Chunks`: how many batches come at least, and at most.
-use Rattle.std.specs.Prelude.{◌≡◌, ℕ, ◌+◌, ◌-◌, ◌*◌, ◌/◌, ◌≤◌, ◌<◌, ⊤, suc, max, cond, leb, ltb, Bool, true, false, Option, Some, None, Ok, Err, [], ◌∷◌, length, vec_items}
+use Rattle.std.specs.Prelude.{◌≡◌, ℕ, ◌+◌, ◌-◌, ◌*◌, ◌/◌, ◌≤◌, ◌<◌, suc, max, cond, leb, ltb, Bool, true, false, Option, Some, None, Ok, Err, [], ◌∷◌, length, vec_items}
 use Rattle.std.proofs.Common.{refl, sym, ap, subst, arith, length-append, ◌∙◌}
 use Rattle.std.proofs.lemmas.Bool.{leb-false, ltb-true, ltb-false}
 use Rattle.std.proofs.Math.Nat.{div-lt_iff_lt-mul, suc-mul}
-use Rattle.fallible_iterator.specs.Contract.{Contract, parts_as}
-use Rattle.fallible_iterator.specs.Hints.{fitting_sum}
-use Rattle.fallible_iterator.proofs.Lemmas.Hints.Joining.{if_some_fitting_sum_at_least_both}
 use Rattle.fallible_itertools_adapters.specs.Batch.{Grown, Put, Puts, held_without_item}
-use Rattle.fallible_itertools_adapters.specs.BeforeStop.{HintsWhereHeld, before_stop, held_one}
-use Rattle.fallible_itertools_adapters.specs.Chunks.{batch_at, batch_by, batch_held, begun, chunks_contract, chunks_due, chunks_parts, chunks_plan, chunks_source, chunks_stops, puts, room_left, vec_count}
-use Rattle.fallible_itertools_adapters.specs.Laws.Chunks.{is_stage_chunks}
+use Rattle.fallible_itertools_adapters.specs.BeforeStop.{before_stop, held_one}
+use Rattle.fallible_itertools_adapters.specs.Chunks.{batch_at, batch_by, begun, chunks_plan, chunks_stops, puts, room_left, vec_count}
+use Rattle.fallible_itertools_adapters.specs.Laws.StagingHints.{EmittedFew, MakesNoFewer}
 use Rattle.fallible_itertools_adapters.specs.Plan.{IsTransition, Transition, plan_meets}
 use Rattle.fallible_itertools_adapters.specs.Staging.{Emitted, stop_comes}
-use Rattle.fallible_itertools_adapters.proofs.Lemmas.BeforeStop.{hints_where_held_by_makes}
-use Rattle.fallible_itertools_adapters.proofs.Lemmas.StagingHints.{EmittedFew, MakesNoFewer, makes_at_most_items_and_held}
 use Rattle.std.specs.declared.vec.Vec.{Vec}
 use Rattle.std.specs.declared.alloc.Global.{Global}
 use Rattle.std.specs.declared.alloc.AllocError.{AllocError}
@@ -31,7 +26,7 @@ begun_at_most n room k m few = begun_cond_at_most n room k m (leb k room) refl f
 
 module _ {A E : Type 0} (from : AllocError → E → Type 0) where
   -- so many items are enough for m batches and no more, with the one that is held
-  abbrev EnoughBegun : ℕ → Option (Vec A Global) → ℕ → ℕ → Type 0
+  abbrev pub EnoughBegun : ℕ → Option (Vec A Global) → ℕ → ℕ → Type 0
   EnoughBegun n None low m = low ≤ m * max n 1
   EnoughBegun n (Some v) low m = (k : ℕ) × (m ≡ suc k) × (low ≤ room_left n (Some v) + k * max n 1)
 
@@ -75,17 +70,13 @@ module _ {A E : Type 0} (from : AllocError → E → Type 0) where
   few_of_transition : (h : ℕ × Option (Vec A Global)) (t : Transition (ℕ × Option (Vec A Global)) (Vec A Global) (Option E) E) (emitted : Emitted (Vec A Global) (Option E) E) (k : ℕ × Option (Vec A Global)) (low i : ℕ) → IsTransition t emitted k → t.1.0 ≡ h.0 → EmittedFew stop_comes t.0 (λ n. EnoughBegun h.0 t.1.1 i n) (λ n. EnoughBegun h.0 h.1 low n) → EmittedFew stop_comes emitted (λ n. EnoughBegun k.0 k.1 i n) (λ n. EnoughBegun h.0 h.1 low n)
   few_of_transition h t emitted k low i w same few = subst (λ m. EmittedFew stop_comes m (λ n. EnoughBegun k.0 k.1 i n) (λ n. EnoughBegun h.0 h.1 low n)) (sym w.0) (subst (λ (j : ℕ × Option (Vec A Global)). EmittedFew stop_comes t.0 (λ n. EnoughBegun j.0 j.1 i n) (λ n. EnoughBegun h.0 h.1 low n)) (sym w.1) (subst (λ (j : ℕ). EmittedFew stop_comes t.0 (λ n. EnoughBegun j t.1.1 i n) (λ n. EnoughBegun h.0 h.1 low n)) (sym same) few))
 
-  chunks_make_no_fewer : MakesNoFewer stop_comes (plan_meets (puts from) (chunks_plan vec_count) chunks_stops) Few
+  pub chunks_make_no_fewer : MakesNoFewer stop_comes (plan_meets (puts from) (chunks_plan vec_count) chunks_stops) Few
   chunks_make_no_fewer = record {
     at_item = λ p x emitted q low w. few_of_transition p.0 (batch_by vec_count p.0 w.0) emitted q.0 low (low - 1) w.2 (size_of_put p.0 w.0) (few_of_put p.0 x w.0 low w.1);
     at_end = λ p emitted q w. few_of_transition p.0 (chunks_stops p.0 None) emitted q.0 0 0 w.0 refl (few_at_end p.0.0 p.0.1 _);
     at_failure = λ p e emitted q low w. few_of_transition p.0 (chunks_stops p.0 (Some e)) emitted q.0 low 0 w.0 refl (few_before_failure p.0.1 e _ _);
   }
 
-  held_one_and_begun_at_most : (n low m : ℕ) (held : Option (Vec A Global)) → EnoughBegun n held low m → held_one held + begun n (room_left n held) low ≤ m
+  pub held_one_and_begun_at_most : (n low m : ℕ) (held : Option (Vec A Global)) → EnoughBegun n held low m → held_one held + begun n (room_left n held) low ≤ m
   held_one_and_begun_at_most n low m None few = let k : begun n 0 low ≤ m = begun_at_most n 0 low m (omega (arith, few)) in omega (arith, k)
   held_one_and_begun_at_most n low m (Some v) (k, at, few) = let j : begun n (room_left n (Some v)) low ≤ k = begun_at_most n (room_left n (Some v)) low k few in omega (arith, j, at)
-
-pub hints_where_held_of_chunks : {S A E : Type 0} (m : Contract S A E) (from : AllocError → E → Type 0) → HintsWhereHeld (parts_as chunks_parts (chunks_contract from m)) (chunks_due {I = S} {A = A} {E = E}) m chunks_source
-hints_where_held_of_chunks m from = hints_where_held_by_makes (puts from) (chunks_plan vec_count) chunks_stops (λ h n. n + batch_held h) (λ h low n. EnoughBegun from h.0 h.1 low n) (makes_at_most_items_and_held stop_comes (plan_meets (puts from) (chunks_plan vec_count) chunks_stops) (λ p. batch_held p.0) (is_stage_chunks from)) (chunks_make_no_fewer from)
-    (λ h k. held_one h.1 + begun h.0 (room_left h.0 h.1) k) (λ h o. fitting_sum o (Some (held_one h.1))) (λ h o n le. if_some_fitting_sum_at_least_both o (Some (held_one h.1)) n (held_one h.1) (n + held_one h.1) (omega arith) le (omega arith)) (λ h low n few. held_one_and_begun_at_most from h.0 low n h.1 few) chunks_parts m (λ P p. ⊤) 1 (λ p. batch_held p.0)

@@ -1,18 +1,20 @@
--- The hint of `TupleWindows`.
+-- Where the hint of `TupleWindows` is sound.
 use Rattle.std.specs.Prelude.{◌≡◌, ℕ, ◌+◌, ◌-◌, ◌≤◌, option_map, Option, Some, None, List, [], ◌∷◌, ◌++◌, length, IfSome}
 use Rattle.std.proofs.Common.{refl, subst, arith, length-append}
 use Rattle.fallible_iterator.specs.Traces.{Answered, Yields, item, end}
-use Rattle.fallible_iterator.specs.Contract.{Contract, parts_as}
 use Rattle.fallible_iterator.specs.Hints.{hint_less}
-use Rattle.fallible_iterator.specs.SoundHints.{Brackets, HintsAsSoundAs}
+use Rattle.fallible_iterator.specs.Sound.{HintsHold, SoundWhere}
+use Rattle.fallible_iterator.specs.Laws.Hints.Brackets.{Brackets}
 use Rattle.fallible_iterator.specs.Passing.{passing_step}
 use Rattle.fallible_iterator.specs.Laws.Passing.{Passes, done, end_passes, failure_passes, keeps, refuses, closes, leaves_out, passes_of_pass_trace}
-use Rattle.fallible_iterator.proofs.Lemmas.Hints.Drawn.{as_sound_of_brackets, as_sound_seen, yields_appended_of_two_yields}
+use Rattle.fallible_iterator.specs.Laws.Hints.Drawn.{as_sound_of_brackets, yields_appended_of_two_yields}
+use Rattle.fallible_iterator.specs.Laws.Hints.Holding.{hold_as_made}
 use Rattle.fallible_itertools_adapters.specs.Outcomes.{as_answered_item}
-use Rattle.fallible_itertools_adapters.specs.TupleWindows.{window_at, windows_asks, items_lacking, tuple_windows_contract}
+use Rattle.fallible_itertools_adapters.specs.TupleWindows.{window_at, windows_asks, items_lacking}
 use Rattle.std.specs.declared.alloc.AllocError.{AllocError}
 use Rattle.fallible_iterator.specs.Outcome.{Outcome}
 use Rattle.fallible_iterator.specs.Outcome.TheVariants.{Kept, LeftOut, End}
+use Rattle.fallible_iterator.specs.Cutting.Take.{as_made}
 
 module _ {A E : Type 0} (is_clone : A → A → Type 0) (is_infallible : A → Type 0) (from : AllocError → E → Type 0) where
   abbrev asks_for_window : Option A → A → Outcome (A × A) E → Option A → Type 0
@@ -97,5 +99,5 @@ module _ {A E : Type 0} (is_clone : A → A → Type 0) (is_infallible : A → T
         windows_bounded_below p k b xs q u ran step = let d = items_taken_by_pairs xs p q ran in let e = end_taken_of_window_hints q.0 u.0 q.1 u.1 end (passes_of_pass_trace step) refl in
             let long = length-append d.0 e.0 in let low : k.0 ≤ length (d.0 ++ e.0) = b.below (d.0 ++ e.0) e.1 e.2 (yields_appended_of_two_yields steps d.0 e.0 p.0 q.0 e.1 d.1 e.3) e.4 in let many = d.2 in let few = e.5 in omega (arith, long, low, many, few)
 
-  pub hints_as_sound_windows : {V S : Type 0} (view : V → S × Option A) (m : Contract S A E) (s : V) → HintsAsSoundAs (parts_as view (tuple_windows_contract is_clone is_infallible from m)) s m (view s).0
-  hints_as_sound_windows view m s h is = (is.0, is.1, as_sound_seen view (StepsOfWindowHints m.steps) s h (as_sound_of_brackets (StepsOfWindowHints m.steps) m.steps (view s) (view s).0 (λ n. n - left_to_begin (view s).1) (λ o. option_map (λ u. u - left_to_begin (view s).1) o) (λ k b. brackets_windows m.steps (view s) k b) h is.0 is.2))
+  pub windows_hold : {S : Type 0} {steps : S → Answered A E → S → Type 0} {hints : S → ℕ × Option ℕ → Type 0} {w : SoundWhere S} → HintsHold steps hints w → HintsHold (StepsOfWindowHints steps) (λ p h. (k : ℕ × Option ℕ) × hints p.0 k × (h ≡ hint_less (left_to_begin p.1) k)) (as_made (λ p. p.0) hints w (λ p k. hint_less (left_to_begin p.1) k))
+  windows_hold {steps = steps} {hints = hints} holds = hold_as_made (StepsOfWindowHints steps) (λ p h. (k : ℕ × Option ℕ) × hints p.0 k × (h ≡ hint_less (left_to_begin p.1) k)) holds (λ p. p.0) (λ p k. hint_less (left_to_begin p.1) k) (λ p k. as_sound_of_brackets (StepsOfWindowHints steps) steps p p.0 (λ n. n - left_to_begin p.1) (λ o. option_map (λ u. u - left_to_begin p.1) o) (λ j b. brackets_windows steps p j b) (hint_less (left_to_begin p.1) k) k refl)
