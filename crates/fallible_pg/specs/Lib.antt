@@ -1,4 +1,5 @@
--- What the clauses of `src/` cite.
+-- What the clauses of `src/` cite, and in `Laws` what follows from it: lemmas that the ghost members cite.
+pub mod Along
 pub mod Base64
 pub mod Cells
 pub mod Columns
@@ -6,6 +7,7 @@ pub mod Csv
 pub mod Draws
 pub mod Faults
 pub mod Kinds
+pub mod Laws
 pub mod Listed
 pub mod Messages
 pub mod Numbers

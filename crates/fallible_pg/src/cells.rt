@@ -1,10 +1,11 @@
 //! The cells of a row.
 ghost use Rattle.std.specs.Prelude.{◌≡◌, ◌≤◌, length, drop};
-ghost use Rattle.fallible_iterator.specs.Contract.{unbounded_contract};
-ghost use Rattle.fallible_iterator.specs.Laws.BoundsRuns.{lawful_unbounded};
 ghost use Rattle.fallible_iterator.specs.Laws.Own.{lawful_bounded_by};
 ghost use Rattle.fallible_iterator.specs.Own.{bounded_by};
+ghost use Rattle.fallible_pg.specs.Along.{taking};
 ghost use Rattle.fallible_pg.specs.Cells.{shows_cells, cells_of, first_cell, is_row, FindsCell, TakesCell};
+ghost use Rattle.fallible_pg.specs.Laws.Along.{lawful_taking};
+ghost use Rattle.fallible_pg.specs.Laws.Cells.{cell_leaves_rest};
 
 use crate::fault::Damage;
 use crate::numbers::{u16_at, u32_at};
@@ -78,7 +79,7 @@ impl<'a> FallibleIterator for Cells<'a> {
     type Error = Damage;
 
     ghost contract = { bounded_by (λ s. s.left)
-        (unbounded_contract (λ s r t. TakesCell (shows_cells s) r (shows_cells t))) };
+        (taking TakesCell shows_cells) };
 
     fn next(&mut self) -> Result<Option<Option<&'a [u8]>>, Damage> {
         if self.left == 0 {
@@ -107,7 +108,7 @@ impl<'a> FallibleIterator for Cells<'a> {
     }
 
     ghost lawful = { lawful_bounded_by (λ s. s.left)
-        (lawful_unbounded (λ s r t. TakesCell (shows_cells s) r (shows_cells t))) };
+        (lawful_taking TakesCell shows_cells cell_leaves_rest) };
 }
 
 // Whether the cells of a message fill it.

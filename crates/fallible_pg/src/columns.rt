@@ -1,10 +1,11 @@
 //! The columns that a message describes.
 ghost use Rattle.std.specs.Prelude.{◌≡◌, ◌≤◌, length};
-ghost use Rattle.fallible_iterator.specs.Contract.{unbounded_contract};
-ghost use Rattle.fallible_iterator.specs.Laws.BoundsRuns.{lawful_unbounded};
 ghost use Rattle.fallible_iterator.specs.Laws.Own.{lawful_bounded_by};
 ghost use Rattle.fallible_iterator.specs.Own.{bounded_by};
+ghost use Rattle.fallible_pg.specs.Along.{taking};
 ghost use Rattle.fallible_pg.specs.Columns.{columns_of, first_column, shows_columns, FindsColumn, TakesColumn};
+ghost use Rattle.fallible_pg.specs.Laws.Along.{lawful_taking};
+ghost use Rattle.fallible_pg.specs.Laws.Columns.{column_leaves_rest};
 
 use crate::cells::after;
 use crate::fault::Damage;
@@ -84,7 +85,7 @@ impl<'a> FallibleIterator for Columns<'a> {
     type Error = Damage;
 
     ghost contract = { bounded_by (λ s. s.left)
-        (unbounded_contract (λ s r t. TakesColumn (shows_columns s) r (shows_columns t))) };
+        (taking TakesColumn shows_columns) };
 
     fn next(&mut self) -> Result<Option<Column<'a>>, Damage> {
         if self.left == 0 {
@@ -113,5 +114,5 @@ impl<'a> FallibleIterator for Columns<'a> {
     }
 
     ghost lawful = { lawful_bounded_by (λ s. s.left)
-        (lawful_unbounded (λ s r t. TakesColumn (shows_columns s) r (shows_columns t))) };
+        (lawful_taking TakesColumn shows_columns column_leaves_rest) };
 }

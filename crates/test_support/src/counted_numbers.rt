@@ -2,6 +2,8 @@
 ghost use Rattle.std.proofs.Common.{rules};
 ghost use Rattle.fallible_iterator.specs.Contract.{seen_as};
 ghost use Rattle.fallible_iterator.specs.Ends.{ends_seen_as};
+ghost use Rattle.fallible_iterator.specs.Laws.Contract.{lawful_seen};
+ghost use Rattle.fallible_iterator.specs.Laws.Ends.{lawful_ends_seen};
 
 use crate::counted::{Log, add};
 use crate::number_list::{NumberList, listed_numbers};
@@ -49,7 +51,7 @@ impl<'a> FallibleIterator for CountedNumbers<'a> {
         self.it.drive_to(goal)
     }
 
-    ghost lawful = { Prim.search rules };
+    ghost lawful = { lawful_seen {m = ⟦<NumberList<'a> as FallibleIterator>⟧.contract} (λ s. s.it) (Prim.search rules) };
 }
 
 impl<'a> DoubleEndedFallibleIterator for CountedNumbers<'a> {
@@ -70,7 +72,8 @@ impl<'a> DoubleEndedFallibleIterator for CountedNumbers<'a> {
         self.it.drive_back(state, turn)
     }
 
-    ghost lawful_ends = { Prim.search rules };
+    ghost lawful_ends = { lawful_ends_seen {m = ⟦<NumberList<'a> as FallibleIterator>⟧.contract}
+        {e = ⟦<NumberList<'a> as DoubleEndedFallibleIterator>⟧.ends} (λ s. s.it) (Prim.search rules) };
 }
 
 /// Yields the answers, and adds its calls to `log`.

@@ -1,0 +1,4 @@
+-- What follows from the definitions: the lemmas that ghost members cite.
+pub mod Along
+pub mod Columns
+pub mod Cells
