@@ -1,5 +1,5 @@
 -- What a buffer holds of the bytes that were read, and what a run comes to.
-use Rattle.std.proofs.Common.{true, ◌≡◌, inl, inr, ℕ, ◌+◌, ◌-◌, ◌*◌, ◌≤◌, ◌^◌, List, [], ◌++◌, length, take, drop, Option, Some, None, Result, Ok, Err, refl, sym, ap, subst, ◌∙◌, arith, append_assoc, length-append, length-take, length-drop, take-add, take-append-drop}
+use Rattle.std.proofs.Common.{true, false, ◌≡◌, inl, inr, ℕ, ◌+◌, ◌-◌, ◌*◌, ◌≤◌, ◌^◌, List, [], ◌++◌, length, take, drop, Option, Some, None, Result, Ok, Err, refl, sym, ap, subst, ◌∙◌, arith, append_assoc, length-append, length-take, length-drop, take-add, take-append-drop}
 use Rattle.std.proofs.KnownBytes.{Consumes-kept, Consumes-nil, Keeps-refl}
 use Rattle.std.proofs.Math.Seq.{take-append-add, drop-append-add, drop-append_seam, take-append_seam}
 use Rattle.std.proofs.lemmas.List.{drop-append-le, drop-take}
@@ -17,7 +17,7 @@ use Rattle.fallible_iterator.specs.Fault.TheVariants.{Source, Memory}
 use Rattle.fallible_json.specs.Json.{not_text_at}
 use Rattle.fallible_json.specs.Places.{place_after_bytes}
 use Rattle.fallible_json.specs.Report.{ComesTo}
-use Rattle.fallible_json.specs.Taking.{FindsFault, Fits, Takes}
+use Rattle.fallible_json.specs.Taking.{FindsFault, Fits, IsLeft, Takes}
 use Rattle.fallible_json.specs.Writing.{EndsFault, Fills, FindsBroken, PrintsLast, PrintsPart, TakesLast, TakesPart, last_lines, valid_of}
 use Rattle.fallible_json.proofs.SoFarLemmas.{Read, SoFar, all_printed, so_far_read, so_far_taken, some_of_read, told_of_broken, told_of_cut, told_of_fault, told_of_last, writes_read, writes_some}
 use Rattle.fallible_json.proofs.Utf8Lemmas.{valid_after}
@@ -53,14 +53,24 @@ module _ {prints : Prints} {unread unread' written written' : Option (List ℕ)}
       whole = s.so_far.whole;
       counts = s.so_far.counts;
       number = s.so_far.number;
+      soon = s.so_far.soon;
+      left = s.so_far.left;
     };
     valid = s.valid;
     long = s.long;
+    unbroken = s.unbroken;
   }
 
   -- how many are held
   held_within : length front + length rest + length s.so_far.done ≡ read
   held_within = let a = length-append s.so_far.done (front ++ rest) in let b = length-append front rest in let c = s.long in omega (arith, a, b, c)
+
+-- what was left stands first
+pub left_held : {prints : Prints} {unread unread' written written' : Option (List ℕ)} {t : Texts} {buffer : List ℕ} {held checked read : ℕ} → Holds prints unread unread' written written' t buffer held checked read → (bytes more : List ℕ) → bytes ≡ take held buffer ++ more → IsLeft t.seen (take checked bytes)
+left_held {t = t} {buffer = buffer} {held = held} {checked = checked} h bytes more is =
+    let front = h.front in
+    let here : take checked bytes ≡ front = ap (take checked) (is ∙ ap (λ l. l ++ more) h.are ∙ append_assoc front h.rest more) ∙ ap (λ (n : ℕ). take n (front ++ (h.rest ++ more))) (sym h.checked_are) ∙ take-append_seam front (h.rest ++ more) in
+    subst (IsLeft t.seen) (sym here) h.so_far.so_far.left
 
 -- what a buffer holds has room in the numbers
 pub fits_held : {prints : Prints} {unread unread' written written' : Option (List ℕ)} {t : Texts} {buffer : List ℕ} {held checked read : ℕ} → Holds prints unread unread' written written' t buffer held checked read → (n k : ℕ) → read + n ≤ 2 ^ 61 → k ≤ 2 * (held + n) + 1 → Fits t k
@@ -104,13 +114,13 @@ module _ {R W : Type 0} (left : R → Option (List ℕ)) (fails : ErrorKind → 
     comes_of_fault run.Write told old buffer held most h ends = absurd h
     comes_of_fault run.Read told old buffer held most h (inl ends) =
         let k = read_kept s (left q) h.0 in
-        subst (λ x. Comes (Err x)) (sym ends.0) (inl (h.1.0, h.1.1, fails_after left fails h.1.0 r p q Bytes s.so_far.taken h.1.2), writes_read k.so_far k.valid written'' ends.1)
+        subst (λ x. Comes (Err x)) (sym ends.0) (inl (h.1.0, h.1.1, fails_after left fails h.1.0 r p q Bytes s.so_far.taken h.1.2), writes_read k.so_far k.valid k.unbroken written'' ends.1)
     comes_of_fault run.Memory told old buffer held most (kept, inl h) (inl ends) =
         let k = read_kept s (left q) kept in
-        subst (λ x. Comes (Err x)) (sym ends.0) (inl (fails_after left fails OutOfMemory r p q Bytes s.so_far.taken h), some_of_read (writes_read k.so_far k.valid written'' ends.1))
+        subst (λ x. Comes (Err x)) (sym ends.0) (inl (fails_after left fails OutOfMemory r p q Bytes s.so_far.taken h), some_of_read (writes_read k.so_far k.valid k.unbroken written'' ends.1))
     comes_of_fault run.Memory told old buffer held most (kept, inr h) (inl ends) =
         let k = read_kept s (left q) kept in
-        subst (λ x. Comes (Err x)) (sym ends.0) (inr h, some_of_read (writes_read k.so_far k.valid written'' ends.1))
+        subst (λ x. Comes (Err x)) (sym ends.0) (inr h, some_of_read (writes_read k.so_far k.valid k.unbroken written'' ends.1))
     comes_of_fault run.Read told old buffer held most h (inr ends) =
         subst (λ x. Comes (Err x)) (sym ends.0) ((Bytes, Consumes-kept (left r) (left p) (left q) Bytes s.so_far.taken h.0), ends.1)
     comes_of_fault run.Memory told old buffer held most h (inr ends) =
@@ -150,11 +160,11 @@ module _ {R W : Type 0} (left : R → Option (List ℕ)) (fails : ErrorKind → 
       pub comes_of_part : (told : RunFault TextFault) → PrintsPart prints written' written'' (failed w) refused t (front ++ More) (length front) t (Err told) → Comes (Err told)
       comes_of_part told (inl ends) = subst (λ x. Comes (Err x)) (sym ends.0) ((more.done ++ (front ++ More), more.taken), ends.1)
       comes_of_part told (inr (u, Source f, takes, tells)) = comes_of_source u f told takes tells
-      comes_of_part told (inr (u, Memory e, takes, tells)) = subst (λ x. Comes (Err x)) (sym tells.0) (inr takes, writes_some s.so_far s.valid (left q) written'' new came tells.1)
+      comes_of_part told (inr (u, Memory e, takes, tells)) = subst (λ x. Comes (Err x)) (sym tells.0) (inr takes, writes_some s.so_far s.valid s.unbroken (left q) written'' new came tells.1)
 
       -- it was taken, and what is printed of it was written
       pub took : (v : Texts) (taken valid : ℕ) → PrintsPart prints written' written'' (failed w) refused t (front ++ More) (length front) v (Ok (taken, valid)) → (front' : List ℕ) × (rest' : List ℕ) × (front' ++ rest' ≡ drop taken (front ++ More)) × (length front' ≡ valid - taken) × (taken ≤ valid) × Read prints (left r) (left q) written written'' v front' rest' (read + length new)
-      took v taken valid (u, (is, within, h), sends) =
+      took v taken valid (u, (is, within, h, unbroken), sends) =
           let n = utf8_valid_len More in
           let few = utf8_valid_len_le More in
           let v' = valid_is valid is in
@@ -190,6 +200,7 @@ module _ {R W : Type 0} (left : R → Option (List ℕ)) (fails : ErrorKind → 
               so_far = after.0;
               valid = subst (λ l. utf8_valid_len (l ++ (front' ++ drop n More)) ≡ length (l ++ front')) (sym done_is) (ap utf8_valid_len all ∙ valid_all ∙ (let f : length (s.so_far.done ++ front) + n ≡ length (done' ++ front') = omega (arith, a, b, c, d, e, long, in_part, v') in f));
               long = subst (λ l. length (l ++ (front' ++ drop n More)) ≡ read + length new) (sym done_is) (ap length all ∙ (let f : length (s.so_far.done ++ (front ++ More)) ≡ read + length new = omega (arith, m, j, k, g) in f));
+              unbroken = subst (λ l. is_some (utf8_error_len (drop (utf8_valid_len l) l)) ≡ false) (drop-append_seam front More) unbroken;
             },
           )
 
@@ -207,7 +218,7 @@ module _ {R W : Type 0} (left : R → Option (List ℕ)) (fails : ErrorKind → 
     comes_of_last (Ok done) (u, h, wrote) = all_printed s.so_far s.valid u written'' end h.0 h.1 wrote
     comes_of_last (Err told) (inl ends) = subst (λ x. Comes (Err x)) (sym ends.0) ((s.so_far.done ++ (front ++ rest), s.so_far.taken), ends.1)
     comes_of_last (Err told) (inr (u, Source f, takes, tells)) = comes_of_last_source u f told takes tells
-    comes_of_last (Err told) (inr (u, Memory e, takes, tells)) = subst (λ x. Comes (Err x)) (sym tells.0) (inr takes, writes_some s.so_far s.valid (left q) written'' [] (Consumes-nil (left q)) tells.1)
+    comes_of_last (Err told) (inr (u, Memory e, takes, tells)) = subst (λ x. Comes (Err x)) (sym tells.0) (inr takes, writes_some s.so_far s.valid s.unbroken (left q) written'' [] (Consumes-nil (left q)) tells.1)
 
   -- ---- by what the buffer holds
 
@@ -220,7 +231,7 @@ module _ {R W : Type 0} (left : R → Option (List ℕ)) (fails : ErrorKind → 
     too_many_comes told same many (inl ends) =
         let k = read_kept h.so_far (left q) (subst (λ x. Keeps (left p) (left x)) (sym same) (Keeps-refl (left p))) in
         let long = k.long in
-        subst (λ x. Comes (Err x)) (sym ends.0) (inr (k.so_far.done ++ (h.front ++ h.rest), k.so_far.taken, omega (arith, long, many)), writes_read k.so_far k.valid written'' ends.1)
+        subst (λ x. Comes (Err x)) (sym ends.0) (inr (k.so_far.done ++ (h.front ++ h.rest), k.so_far.taken, omega (arith, long, many)), writes_read k.so_far k.valid k.unbroken written'' ends.1)
     too_many_comes told same many (inr ends) =
         let k = read_kept h.so_far (left q) (subst (λ x. Keeps (left p) (left x)) (sym same) (Keeps-refl (left p))) in
         subst (λ x. Comes (Err x)) (sym ends.0) ((k.so_far.done ++ (h.front ++ h.rest), k.so_far.taken), ends.1)

@@ -17,6 +17,7 @@ mod Reading
 mod ReportLemmas
 mod RunLemmas
 mod SameTreeLemmas
+mod SeenLemmas
 mod ShiftLemmas
 mod SoFarLemmas
 mod SpelledJsonLemmas

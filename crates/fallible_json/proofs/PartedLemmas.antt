@@ -16,7 +16,8 @@ use Rattle.fallible_json.specs.declared.token.Token.{Token}
 use Rattle.fallible_json.specs.declared.wanted.Wanted.{Wanted}
 use Rattle.fallible_json.specs.declared.token.Token.TheVariants.{Text, Number, Literal}
 use Rattle.fallible_json.proofs.LexingLemmas.{lexed_begun}
-use Rattle.fallible_json.proofs.Reading.{read, token_begun, token_read}
+use Rattle.fallible_json.proofs.Reading.{token_begun, token_read}
+use Rattle.fallible_json.specs.Reading.{read}
 use Rattle.fallible_json.proofs.ReadLemmas.{first_of, one_more, spelled_of_read}
 use Rattle.fallible_json.proofs.SpelledLemmas.{read_appended, read_of_spelled}
 
@@ -223,7 +224,7 @@ no_blank_if : (blank : Bool) (byte : ℕ) (phase : Phase) → is_blank byte ≡ 
 no_blank_if true byte phase is begins = let none : begun_by byte ≡ None = no_blank_begins byte (byte ∷ []) (is_blank_byte byte is) refl in absurd cc
 no_blank_if false byte phase is begins = refl
 
-no_blank : (byte : ℕ) (phase : Phase) → begun_by byte ≡ Some phase → is_blank byte ≡ false
+pub no_blank : (byte : ℕ) (phase : Phase) → begun_by byte ≡ Some phase → is_blank byte ≡ false
 no_blank byte phase begins = no_blank_if (is_blank byte) byte phase refl begins
 
 -- bytes that are read as a token: what the first begins, and what the others make of it

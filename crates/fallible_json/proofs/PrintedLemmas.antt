@@ -18,7 +18,7 @@ use Rattle.fallible_json.specs.declared.token.Phase.{Phase}
 use Rattle.fallible_json.specs.declared.token.Phase.TheVariants.{Whole, Inside, Escape, FourDigits, ThreeDigits, TwoDigits, OneDigit, Minus, Zero, Integer, Point, Fraction, Exponent, Sign, Power, T, Tr, Tru, F, Fa, Fal, Fals, N, Nu, Nul}
 use Rattle.fallible_json.specs.declared.token.Token.{Token}
 use Rattle.fallible_json.specs.declared.token.Token.TheVariants.{BeginArray, EndArray, BeginObject, EndObject, NameSeparator, ValueSeparator, Text, Number, Literal}
-use Rattle.fallible_json.proofs.Reading.{read}
+use Rattle.fallible_json.specs.Reading.{read}
 use Rattle.fallible_json.proofs.PartedLemmas.{ReadsToken, Stops, blank_is, longest_of_stops, read_begun, reads_token}
 
 -- ---- no number stands right after another

@@ -4,7 +4,8 @@ use Rattle.std.specs.Char.{is_ascii_digit, is_ascii_hexdigit}
 use Rattle.std.specs.Int.{is_in_range}
 use Rattle.std.proofs.Common.{arith, refl, ap, sym, subst, inl, inr, ◌∙◌, append_assoc}
 use Rattle.std.proofs.lemmas.Bool.Decides.{Decides-eqb, nat_tests}
-use Rattle.fallible_json.proofs.Reading.{read, token_begun, token_read}
+use Rattle.fallible_json.proofs.Reading.{token_begun, token_read}
+use Rattle.fallible_json.specs.Reading.{read}
 use Rattle.fallible_json.specs.Spelling.{Rule, Byte, ◌then◌, ◌or◌, Maybe, Times, Many, OneOrMore, IsDigit, IsInt, IsFrac, IsExp, IsHexDigit, IsUnescaped, IsEscaped, IsChar, Just, IsSpelled}
 use Rattle.fallible_json.specs.Tokens.{after, after_fraction, after_integer, after_sign, begun_by, first_digit, goes_if, is_escaped, token_of, begun_or}
 use Rattle.fallible_json.specs.declared.token.Phase.{Phase}

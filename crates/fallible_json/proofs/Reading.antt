@@ -1,18 +1,9 @@
--- What the bytes of a token make of it.
-use Rattle.std.specs.Prelude.{ℕ, Option, Some, None, option_and_then, List, [], ◌∷◌}
-use Rattle.fallible_json.specs.Tokens.{after, begun_by, token_of}
+-- Which token bytes are.
+use Rattle.std.specs.Prelude.{ℕ, Option, Some, None, option_and_then, List}
+use Rattle.fallible_json.specs.Reading.{read}
+use Rattle.fallible_json.specs.Tokens.{token_of}
 use Rattle.fallible_json.specs.declared.token.Phase.{Phase}
 use Rattle.fallible_json.specs.declared.token.Token.{Token}
-
--- what a byte makes of what is begun, which is nothing before the first
-abbrev pub step : Option Phase → ℕ → Option Phase
-step None byte = begun_by byte
-step (Some phase) byte = after phase byte
-
--- what bytes make of it, if each goes on with it
-unfoldable pub read : Option Phase → List ℕ → Option (Option Phase)
-read begun [] = Some begun
-read begun (byte ∷ bytes) = option_and_then (λ phase. read (Some phase) bytes) (step begun byte)
 
 -- the token that is begun, if its bytes so far are one
 abbrev pub token_begun : Option Phase → Option Token

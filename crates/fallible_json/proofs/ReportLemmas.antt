@@ -1,13 +1,14 @@
 -- What was read of texts, and what is written of them.
-use Rattle.std.proofs.Common.{Bool, true, false, ◌≡◌, inl, inr, ℕ, ◌+◌, ◌-◌, ◌*◌, ◌<◌, ◌≤◌, ◌^◌, List, [], ◌∷◌, ◌++◌, length, take, drop, Option, Err, refl, sym, ap, subst, ◌∙◌, arith, append-nil, length-append, length-take, length-drop, reverse, take_all, take-append-drop, max}
+use Rattle.std.proofs.Common.{Bool, true, false, ◌≡◌, inl, inr, ℕ, ◌+◌, ◌-◌, ◌*◌, ◌<◌, ◌≤◌, ◌^◌, List, [], ◌∷◌, ◌++◌, length, take, drop, Option, Ok, Err, refl, sym, ap, subst, ◌∙◌, arith, append-nil, length-append, length-take, length-drop, reverse, take_all, take-add, take-append-drop, max}
 use Rattle.std.proofs.lemmas.List.{drop-drop, drop-take, length-reverse}
+use borrow.Author.Tests.{ne_eqb}
 use Rattle.std.specs.Io.KnownBytes.{Appends}
 use Rattle.std.specs.Prelude.{◌==◌, not}
 use Rattle.std.specs.Option.{is_some}
 use Rattle.std.specs.Str.Lossy.{utf8_error_len, utf8_valid_len}
 use Rattle.fallible_iterator.specs.Fault.{Fault}
 use Rattle.fallible_iterator.specs.Fault.TheVariants.{Source, Memory}
-use Rattle.fallible_json.specs.Taking.{CountsUpTo, EndTexts, Fits, Takes, begun_of, ended_of, ◌before◌}
+use Rattle.fallible_json.specs.Taking.{BeginWithLeft, CountsUpTo, EndTexts, Fits, IsLeft, Takes, begun_of, ended_of, ◌before◌}
 use Rattle.fallible_json.specs.Texts.{complete, cut, texts_after}
 use Rattle.fallible_json.specs.Json.{not_text_at}
 use Rattle.fallible_json.specs.Places.{place_after_bytes}
@@ -17,6 +18,7 @@ use Rattle.fallible_json.specs.declared.report.Prints.TheVariants as how
 use Rattle.fallible_json.proofs.FewTextsLemmas.{few_before}
 use Rattle.fallible_json.specs.declared.fault.JsonFault.{JsonFault}
 use Rattle.fallible_json.specs.declared.texts.Texts.{Texts}
+use Rattle.fallible_json.specs.declared.token.Phase.{Phase}
 
 -- ---- a fault can be told
 
@@ -52,28 +54,35 @@ pub record Forgets (t : Texts) (all : Bool) (u : Texts) : Type 0 where
   pub none : ended_of u ≡ []
   pub count : u.count ≡ t.count
   pub place : u.place ≡ t.place
+  pub seen : u.seen ≡ t.seen
   pub whole : u.whole ≤ length u.lines.items
 
 pub some_open : {A : Type 0} (l : List A) (n : ℕ) (all : Bool) → n ≡ length l → all ≡ not (n == 0) → all ≡ true → 0 < length (reverse l)
 some_open [] n all long is h = absurd (let e : not (n == 0) ≡ false = ap (λ (k : ℕ). not (k == 0)) long in let f : false ≡ true = sym e ∙ sym is ∙ h in cc)
 some_open (x ∷ l) n all long is h = let k = length-reverse (x ∷ l) in omega (arith, k)
 
-pub sends_ended : (prints : Prints) (written written' : Option (List ℕ)) (t u : Texts) (all : Bool) (count : ℕ) → Appends written written' (take count t.lines.items) → (all ≡ false → count ≡ t.whole) → (all ≡ true → count ≡ length t.lines.items) → (all ≡ true → (prints ≡ how.Tokens) × (0 < length (begun_of t).0.0)) → Forgets t all u → Sends prints written written' t u
-sends_ended prints written written' t u false count wrote whole long within f =
+pub all_open : {A : Type 0} (l : List A) (n : ℕ) (all : Bool) → n ≡ length l → all ≡ not (n == 0) → 0 < length (reverse l) → all ≡ true
+all_open {A = A} [] n all long is h = absurd (let k = length-reverse {A = A} [] in omega (arith, k, h))
+all_open (x ∷ l) n all long is h = is ∙ ap (λ (k : ℕ). not (k == 0)) long ∙ ap not (ne_eqb (length (x ∷ l)) 0 (omega arith))
+
+pub sends_ended : (prints : Prints) (written written' : Option (List ℕ)) (t u : Texts) (all : Bool) (count : ℕ) → Appends written written' (take count t.lines.items) → (all ≡ false → count ≡ t.whole) → (all ≡ true → count ≡ length t.lines.items) → (all ≡ true → (prints ≡ how.Tokens) × (0 < length (begun_of t).0.0)) → (prints ≡ how.Tokens → 0 < length (begun_of t).0.0 → all ≡ true) → Forgets t all u → Sends prints written written' t u
+sends_ended prints written written' t u false count wrote whole long within each f =
     let same = f.ended refl in
     record {
       sent = [];
       wrote = subst (Appends written written') (ap (λ n. take n t.lines.items) (whole refl) ∙ sym (append-nil (ended_of t))) wrote;
       plain = λ h. refl;
       within = inl refl;
+      all = λ tokens open'. absurd (let never : false ≡ true = each tokens open' in cc);
       state = f.state;
       json = sym (ap (λ b. b.1) same);
       none = f.none;
       whole = f.whole;
       count = f.count;
       place = f.place;
+      seen = f.seen;
     }
-sends_ended prints written written' t u true count wrote whole long within f =
+sends_ended prints written written' t u true count wrote whole long within each f =
     let none = f.begun refl in
     let tokens = within refl in
     let all : take count t.lines.items ≡ ended_of t ++ (begun_of t).1 = ap (λ n. take n t.lines.items) (long refl) ∙ take_all (length t.lines.items) t.lines.items (omega arith) ∙ sym (take-append-drop t.whole t.lines.items) in
@@ -82,13 +91,33 @@ sends_ended prints written written' t u true count wrote whole long within f =
       wrote = subst (Appends written written') all wrote;
       plain = λ h. absurd (let e : how.Tokens ≡ how.Texts = sym tokens.0 ∙ h in cc);
       within = inr tokens.1;
+      all = λ h open'. none;
       state = f.state;
       json = sym (ap (λ l. (begun_of t).1 ++ l) none ∙ append-nil (begun_of t).1);
       none = f.none;
       whole = f.whole;
       count = f.count;
       place = f.place;
+      seen = f.seen;
     }
+
+-- ---- a part that was taken
+
+-- it begins with what was left
+pub left_in_part : (seen : Option (ℕ × Phase)) (bytes : List ℕ) (checked more : ℕ) → IsLeft seen (take checked bytes) → BeginWithLeft seen (take (checked + more) bytes)
+left_in_part seen bytes checked more h = (take checked bytes, take more (drop checked bytes), take-add checked more bytes, h)
+
+pub part_taken : (refused : Type 0) {t u : Texts} {taken : ℕ} (bytes : List ℕ) (checked more : ℕ) → checked ≤ length bytes → more ≡ utf8_valid_len (take (length bytes - checked) (drop checked bytes)) → more ≤ length (take (length bytes - checked) (drop checked bytes)) → Takes t (take (checked + more) bytes) taken u → is_some (utf8_error_len (drop more (take (length bytes - checked) (drop checked bytes)))) ≡ false → TakesPart t bytes checked refused u (Ok (taken, checked + more))
+part_taken refused bytes checked more within is' few' h unbroken' =
+    let long = length-drop checked bytes in
+    let whole : take (length bytes - checked) (drop checked bytes) ≡ drop checked bytes = take_all (length bytes - checked) (drop checked bytes) (omega (arith, long)) in
+    let is : more ≡ utf8_valid_len (drop checked bytes) = is' ∙ ap utf8_valid_len whole in
+    let few : more ≤ length (drop checked bytes) = subst (λ l. more ≤ length l) whole few' in (
+      ap (λ (k : ℕ). checked + k) is,
+      omega (arith, few, long, within),
+      h,
+      subst (λ (k : ℕ). is_some (utf8_error_len (drop k (drop checked bytes))) ≡ false) is (subst (λ l. is_some (utf8_error_len (drop more l)) ≡ false) whole unbroken'),
+    )
 
 -- ---- a byte that is no UTF-8
 

@@ -1,8 +1,8 @@
 -- What was read of texts, and what was written of them, after each read.
-use Rattle.std.proofs.Common.{true, false, ◌≡◌, ◌⊎◌, inl, inr, ⊎_elim, ℕ, ◌+◌, ◌<◌, ◌≤◌, List, [], ◌∷◌, ◌++◌, length, take, drop, map, Option, Ok, Err, IsUtf8, refl, sym, ap, subst, ◌∙◌, arith, append_assoc, append-nil, length-append, length-take, take-append-drop, eq-eqb}
+use Rattle.std.proofs.Common.{true, false, ◌≡◌, ◌⊎◌, inl, inr, ⊎_elim, ℕ, ◌+◌, ◌<◌, ◌≤◌, List, [], ◌∷◌, ◌++◌, length, take, drop, map, Option, None, Ok, Err, IsUtf8, refl, sym, ap, subst, ◌∙◌, arith, append_assoc, append-nil, length-append, length-take, take-append-drop, eq-eqb}
 use Rattle.std.specs.Prelude.{◌≢◌, ◌==◌}
 use Rattle.std.proofs.KnownBytes.{Appends-nil, Appends-trans, Consumes-nil, Consumes-trans}
-use Rattle.std.proofs.Math.Seq.{take-append-add, take-append_seam}
+use Rattle.std.proofs.Math.Seq.{drop-append_seam, take-append-add, take-append_seam}
 use Rattle.std.proofs.lemmas.Bool.{cases_lt, cond-true, cond-false}
 use Rattle.std.proofs.lemmas.Grind.{flat_map-append}
 use Rattle.std.proofs.lemmas.Str.{IsUtf8-append, IsUtf8-nil, utf8_valid_len-IsUtf8, utf8_valid_len_le}
@@ -17,8 +17,8 @@ use Rattle.fallible_json.specs.Grammar.{State, begin}
 use Rattle.fallible_json.specs.Json.{not_text_at}
 use Rattle.fallible_json.specs.Places.{place_after_bytes}
 use Rattle.fallible_json.specs.Report.{HasTexts, WritesRead, WritesSome}
-use Rattle.fallible_json.specs.Taking.{CountsUpTo, EndTexts, FindsFault, FindsLastFault, Takes, TakesAll, begun_of, ended_of, ◌before◌}
-use Rattle.fallible_json.specs.Texts.{Ending, complete, cut, TextResult, lines_of, texts_after, texts_from, texts_of, texts_so_far}
+use Rattle.fallible_json.specs.Taking.{CountsUpTo, EndTexts, FindsFault, FindsLastFault, IsLeft, Takes, TakesAll, begun_of, ended_of, ◌before◌}
+use Rattle.fallible_json.specs.Texts.{Ending, IsUnbroken, complete, cut, TextResult, lines_of, texts_after, texts_from, texts_of, texts_so_far}
 use Rattle.fallible_json.specs.Writing.{FindsBroken, Sends, last_lines, printed}
 use Rattle.fallible_json.proofs.FrontedLemmas.{before_twice, fronted, fronted_after, fronted_before, fronted_lines, fronted_nil, fronted_texts, fronted_twice, left_of, length_fronted, some_after}
 use Rattle.fallible_json.proofs.Utf8Lemmas.{valid_after, valid_broken, valid_front}
@@ -120,7 +120,7 @@ sent_printed how.Tokens texts sent plain = refl
 
 -- ---- what was read, and what was written
 
--- Bytes were read: those that were taken, `front`, which are UTF-8, and `rest`. Of those that were taken texts ended, and bytes `sent` of the text that is begun were written after them.
+-- Bytes were read: those that were taken, `front`, which are UTF-8, and `rest`. Of those that were taken texts ended, and bytes `sent` of the text that is begun were written after them: where tokens are printed, all that an array or an object has.
 pub record SoFar (prints : Prints) (unread unread' written written' : Option (List ℕ)) (t : Texts) (front rest : List ℕ) : Type 0 where
   pub done : List ℕ
   pub taken : Consumes unread unread' (done ++ (front ++ rest))
@@ -136,15 +136,22 @@ pub record SoFar (prints : Prints) (unread unread' written written' : Option (Li
   pub whole : t.whole ≤ length t.lines.items
   pub counts : CountsUpTo t (length done)
   pub number : t.count ≡ length texts
+  pub left : IsLeft t.seen front
+  pub soon : prints ≡ how.Tokens → 0 < length (begun_of t).0.0 → (begun_of t).1 ≡ []
 
--- no further byte is UTF-8
+-- no further byte is UTF-8, and none is known to be no UTF-8
 pub record Read (prints : Prints) (unread unread' written written' : Option (List ℕ)) (t : Texts) (front rest : List ℕ) (read : ℕ) : Type 0 where
   pub so_far : SoFar prints unread unread' written written' t front rest
   pub valid : utf8_valid_len (so_far.done ++ (front ++ rest)) ≡ length (so_far.done ++ front)
   pub long : length (so_far.done ++ (front ++ rest)) ≡ read
+  pub unbroken : is_some (utf8_error_len rest) ≡ false
 
-pub nothing_read : (prints : Prints) (unread written : Option (List ℕ)) (t : Texts) → begun_of t ≡ (begin, []) → ended_of t ≡ [] → CountsUpTo t 0 → t.place ≡ (1, 1) → t.whole ≤ length t.lines.items → Read prints unread unread written written t [] [] 0
-nothing_read prints unread written t begun none counts place whole =
+none_broken : is_some (utf8_error_len []) ≡ false
+unfolding utf8_error_len
+none_broken = refl
+
+pub nothing_read : (prints : Prints) (unread written : Option (List ℕ)) (t : Texts) → begun_of t ≡ (begin, []) → ended_of t ≡ [] → CountsUpTo t 0 → t.place ≡ (1, 1) → t.whole ≤ length t.lines.items → t.seen ≡ None → Read prints unread unread written written t [] [] 0
+nothing_read prints unread written t begun none counts place whole seen =
     let at_begin = λ (ending : Ending) (bytes : List ℕ). let e : texts_after ending (1, 1) (begin, []) bytes ≡ texts_after ending t.place (begun_of t) bytes = ap (λ (p : ℕ × ℕ). texts_after ending p (begin, []) bytes) (sym place) ∙ ap (λ b. texts_after ending t.place b bytes) (sym begun) in e in
     let few = counts.0 in
     record {
@@ -163,9 +170,12 @@ nothing_read prints unread written t begun none counts place whole =
         whole = whole;
         counts = counts;
         number = omega (arith, few);
+        left = subst (λ o. IsLeft o []) (sym seen) refl;
+        soon = λ tokens open'. ap (λ b. b.1) begun;
       };
       valid = utf8_valid_len-IsUtf8 [] IsUtf8-nil;
       long = refl;
+      unbroken = none_broken;
     }
 
 module _ {prints : Prints} {unread unread' written written' : Option (List ℕ)} {t : Texts} {front rest : List ℕ} (s : SoFar prints unread unread' written written' t front rest) where
@@ -187,6 +197,8 @@ module _ {prints : Prints} {unread unread' written written' : Option (List ℕ)}
       whole = s.whole;
       counts = s.counts;
       number = s.number;
+      left = s.left;
+      soon = s.soon;
     },
     refl,
   )
@@ -259,6 +271,8 @@ module _ {prints : Prints} {unread unread' written written' : Option (List ℕ)}
             whole = sends.whole;
             counts = (omega (arith, a, count, long), omega (arith, b, line, long), omega (arith, d, column, long));
             number = count ∙ number;
+            left = subst (λ o. IsLeft o (drop taken v')) (sym sends.seen) h.left;
+            soon = λ tokens open'. sends.all tokens (subst (λ (b : State). 0 < length b.0) sends.state open');
           },
           refl,
         )
@@ -361,21 +375,28 @@ module _ {prints : Prints} {unread unread' written written' : Option (List ℕ)}
       );
     }) wrote
 
+    unbroken_all : is_some (utf8_error_len rest) ≡ false → IsUnbroken (s.done ++ (front ++ rest))
+    unbroken_all unbroken =
+        let bytes = s.done ++ (front ++ rest) in
+        let dropped : drop (utf8_valid_len bytes) bytes ≡ rest = ap (λ (k : ℕ). drop k bytes) valid ∙ ap (drop (length (s.done ++ front))) (sym (append_assoc s.done front rest)) ∙ drop-append_seam (s.done ++ front) rest in
+        subst (λ l. is_some (utf8_error_len l) ≡ false) (sym dropped) unbroken
+
     -- what was read when a read failed, or too many bytes came
-    pub writes_read : (written'' : Option (List ℕ)) → Appends written' written'' (last_lines prints t) → WritesRead prints unread unread' written written''
-    writes_read written'' wrote = record {
+    pub writes_read : is_some (utf8_error_len rest) ≡ false → (written'' : Option (List ℕ)) → Appends written' written'' (last_lines prints t) → WritesRead prints unread unread' written written''
+    writes_read unbroken written'' wrote = record {
       bytes = s.done ++ (front ++ rest);
       taken = s.taken;
       texts = s.texts;
       json = s.sent ++ (begun_of t).1;
       place = place_after_bytes t.place front;
       are = ap texts_so_far (sym (append_assoc s.done front rest)) ∙ so_far_of_front (s.done ++ front) rest utf8_valid_up_to_front ∙ all_cut;
+      unbroken = unbroken_all unbroken;
       wrote = subst (Appends written written'') (last_printed prints t (lines_of s.texts ++ s.sent) s.texts s.sent (λ json. ap (λ l. (lines_of s.texts ++ s.sent) ++ (l ++ json)) s.none ∙ append_assoc (lines_of s.texts) s.sent json) s.plain) (Appends-trans written written' written'' (lines_of s.texts ++ s.sent) (last_lines prints t) s.wrote wrote);
     }
 
     -- what was written when no memory was there for more
-    pub writes_some : (unread'' written'' : Option (List ℕ)) (more : List ℕ) → Consumes unread' unread'' more → Appends written' written'' [] → WritesSome prints unread unread'' written written''
-    writes_some unread'' written'' more more_taken wrote = record {
+    pub writes_some : is_some (utf8_error_len rest) ≡ false → (unread'' written'' : Option (List ℕ)) (more : List ℕ) → Consumes unread' unread'' more → Appends written' written'' [] → WritesSome prints unread unread'' written written''
+    writes_some unbroken unread'' written'' more more_taken wrote = record {
       bytes = s.done ++ (front ++ rest);
       more = more;
       taken = Consumes-trans unread unread' unread'' (s.done ++ (front ++ rest)) more s.taken more_taken;
@@ -384,6 +405,7 @@ module _ {prints : Prints} {unread unread' written written' : Option (List ℕ)}
       unsent = (begun_of t).1;
       place = place_after_bytes t.place front;
       are = ap texts_so_far (sym (append_assoc s.done front rest)) ∙ so_far_of_front (s.done ++ front) rest utf8_valid_up_to_front ∙ all_cut;
+      unbroken = unbroken_all unbroken;
       wrote = subst (Appends written written'') (append-nil (lines_of s.texts ++ s.sent) ∙ sent_printed prints s.texts s.sent s.plain) (Appends-trans written written' written'' (lines_of s.texts ++ s.sent) [] s.wrote wrote);
     }
 
@@ -408,5 +430,6 @@ some_of_read {unread = unread} {unread' = unread'} h = record {
   unsent = [];
   place = h.place;
   are = h.are ∙ ap (λ l. h.texts before Err (l, not_text_at h.place) ∷ []) (sym (append-nil h.json));
+  unbroken = h.unbroken;
   wrote = h.wrote;
 }

@@ -4,7 +4,8 @@ use Rattle.std.specs.Char.{is_ascii_hexdigit}
 use Rattle.std.specs.Int.{is_in_range}
 use Rattle.std.proofs.Common.{arith, refl, ap, sym, subst, inl, inr, ◌∙◌}
 use Rattle.std.proofs.lemmas.Bool.Decides.{nat_tests}
-use Rattle.fallible_json.proofs.Reading.{read, step, token_begun, token_read}
+use Rattle.fallible_json.proofs.Reading.{token_begun, token_read}
+use Rattle.fallible_json.specs.Reading.{read, step}
 use Rattle.fallible_json.specs.Spelling.{Rule, Byte, FromTo, From, ◌then◌, ◌or◌, Maybe, Times, Many, OneOrMore, IsDigit, IsInt, IsFrac, IsExp, IsNumber, IsHexDigit, IsUnescaped, IsEscaped, IsChar, IsString, IsLiteral, IsSpelled}
 use Rattle.fallible_json.specs.Tokens.{after, begun_by}
 use Rattle.fallible_json.specs.declared.token.Phase.{Phase}

@@ -1,5 +1,5 @@
 -- What is taken of bytes, a token at a time.
-use Rattle.std.specs.Prelude.{◌≡◌, ℕ, ◌+◌, ◌<◌, ◌≤◌, Bool, true, false, nat_lt, None, Ok, Err, List, [], ◌∷◌, ◌++◌, length, take, drop}
+use Rattle.std.specs.Prelude.{◌≡◌, ℕ, ◌+◌, ◌<◌, ◌≤◌, Bool, true, false, nat_lt, Option, None, Ok, Err, List, [], ◌∷◌, ◌++◌, length, take, drop}
 use Rattle.std.specs.declared.convert.Infallible.{Infallible}
 use Rattle.std.proofs.Common.{arith, refl, sym, ap, subst, subst₂, ◌∙◌, append-nil, append_assoc, length-append, length-take-le, take-append-drop}
 use Rattle.std.proofs.lemmas.List.{take-append-le}
@@ -9,15 +9,16 @@ use Rattle.fallible_json.specs.Grammar.{State, after_token}
 use Rattle.fallible_json.specs.Json.{fault_place, not_text_at, wanted_at}
 use Rattle.fallible_json.specs.Lexing.{Lexeme}
 use Rattle.fallible_json.specs.Places.{place_after_bytes}
-use Rattle.fallible_json.specs.Taking.{EndTexts, FindsFault, IsFront, Takes, TakesToken, TakesUpTo, begun_of, ended_of, told_of, tokens_from, ◌before◌}
+use Rattle.fallible_json.specs.Taking.{EndTexts, FindsFault, IsFront, IsLeft, Takes, TakesToken, TakesUpTo, begun_of, ended_of, told_of, tokens_from, ◌before◌}
 use Rattle.fallible_json.specs.Texts.{Ending, TextResult, Tokens, cut, lines_of, texts_after, texts_from}
 use Rattle.fallible_json.specs.Wanted.{wanted_of}
 use Rattle.fallible_json.specs.declared.lexer.LexFault.{LexFault}
 use Rattle.fallible_json.specs.declared.lexer.LexFault.TheVariants.{Source, Unknown, Unfinished}
 use Rattle.fallible_json.specs.declared.minifying.Misplaced.TheVariants as misplaced
-use Rattle.fallible_json.specs.declared.texts.Front.TheVariants.{Faulty}
+use Rattle.fallible_json.specs.declared.texts.Front.TheVariants.{Faulty, Open}
 use Rattle.fallible_json.specs.declared.texts.Front.TheVariants as front
 use Rattle.fallible_json.specs.declared.texts.Texts.{Texts}
+use Rattle.fallible_json.specs.declared.token.Phase.{Phase}
 use Rattle.fallible_json.specs.declared.token.Token.{Token}
 use Rattle.fallible_json.specs.declared.wanted.Wanted.{Wanted}
 use Rattle.fallible_json.proofs.PlaceLemmas.{place_after_append, within_after_bytes}
@@ -63,6 +64,21 @@ takes_more {t} {u} {v} bytes at first last end token so_far stands taken = recor
   few = let n = so_far.few in let one = taken.once in let later = stands.0 in omega (arith, length-append so_far.texts taken.texts, n, one, later);
   within = stands.1;
 }
+
+-- up to where nothing more can be taken, after blanks
+pub takes_open : {t u : Texts} (bytes : List ℕ) (at taken : ℕ) (seen : Option (ℕ × Phase)) → TakesUpTo t bytes at u → IsFront bytes at (Open taken seen) → TakesUpTo t bytes taken u × (tokens_from cut taken bytes ≡ []) × IsLeft seen (drop taken bytes)
+takes_open {t} {u} bytes at taken seen so_far stands = (
+  record {
+    texts = so_far.texts;
+    ended = so_far.ended;
+    goes = λ rest ending. so_far.goes rest ending ∙ ap (λ l. so_far.texts before texts_from t.place (bytes ++ rest) ending (begun_of u) l) (stands.4 rest ending);
+    place = so_far.place;
+    few = let n = so_far.few in let later = stands.0 in omega (arith, n, later);
+    within = stands.1;
+  },
+  stands.2,
+  stands.3,
+)
 
 -- ---- a fault
 
@@ -142,12 +158,12 @@ texts_none : (origin : ℕ × ℕ) (text : List ℕ) (b : State × List ℕ) (l 
 unfolding texts_from
 texts_none origin text (state, json) l is = rw is refl
 
--- the same texts, at another place
-abbrev at_place : Texts → ℕ × ℕ → Texts
-at_place t place = record t { place = place }
+-- the same texts, at another place, and with what was seen there
+abbrev at_place : Texts → ℕ × ℕ → Option (ℕ × Phase) → Texts
+at_place t place seen = record t { place = place; seen = seen }
 
-pub takes_done : {t u : Texts} (bytes : List ℕ) (taken : ℕ) (place : ℕ × ℕ) → TakesUpTo t bytes taken u → tokens_from cut taken bytes ≡ [] → place ≡ place_after_bytes u.place (take taken bytes) → Takes t bytes taken (at_place u place)
-takes_done {t} {u} bytes taken place so_far none is = record {
+pub takes_done : {t u : Texts} (bytes : List ℕ) (taken : ℕ) (place : ℕ × ℕ) (seen : Option (ℕ × Phase)) → TakesUpTo t bytes taken u × (tokens_from cut taken bytes ≡ []) × IsLeft seen (drop taken bytes) → place ≡ place_after_bytes u.place (take taken bytes) → Takes t bytes taken (at_place u place seen)
+takes_done {t} {u} bytes taken place seen (so_far, none, left) is = record {
   texts = so_far.texts;
   ended = record { lines = so_far.ended.lines; count = so_far.ended.count; whole = so_far.ended.whole };
   within = so_far.within;
@@ -157,6 +173,7 @@ takes_done {t} {u} bytes taken place so_far none is = record {
       let alone : texts_from t.place bytes cut (begun_of u) (tokens_from cut taken bytes) ≡ texts_after cut place (begun_of u) (drop taken bytes) =
       subst₂ (λ l k. texts_from t.place l cut (begun_of u) (tokens_from cut taken l) ≡ texts_after cut place (begun_of u) k) (append-nil bytes) (append-nil (drop taken bytes)) (goes_on t.place bytes [] taken cut (begun_of u) so_far.within ∙ ap (λ p. texts_after cut p (begun_of u) (drop taken bytes ++ [])) here) in
       sym alone ∙ texts_none t.place bytes (begun_of u) (tokens_from cut taken bytes) none ∙ ap (λ p. Err ((begun_of u).1, not_text_at p) ∷ []) all;
+  left = left;
   counts = λ n counts.
       let few = so_far.few in
       let more = so_far.ended.count in

@@ -125,11 +125,6 @@ begun_by_sign byte token is = rw is refl
 pub begun_by_letter : (byte : ℕ) (begun : Option Phase) → sign_of byte ≡ None → letter_begun byte ≡ begun → begun_by byte ≡ begun
 begun_by_letter byte begun none is = rw none is
 
-pub takes_sign : (text : List ℕ) (place first : ℕ) (token : Token) → lexed {E = Infallible} (placed_from place text) ≡ lexed (placed_from first text) → first < length text → is_blank (get_or text first 0) ≡ false → sign_of (get_or text first 0) ≡ Some token → TakesShown (lexed {E = Infallible} (placed_from place text)) (Ok (Some (first, first, token))) (lexed {E = Infallible} (placed_from (first + 1) text))
-takes_sign text place first token same within blank is =
-    let back : first + 1 - 1 ≡ first = omega arith in
-    subst (λ k. TakesShown (lexed {E = Infallible} (placed_from place text)) (Ok (Some (first, k, token))) (lexed {E = Infallible} (placed_from (first + 1) text))) back (takes_token_at text place first (first + 1) (Whole token) (Whole token) same within blank (begun_by_sign (get_or text first 0) token is) (whole_stops_at text (first + 1) token))
-
 -- ---- bytes that leave a phase as it is
 
 pub plain_goes : (byte : ℕ) → 32 ≤ byte → (byte == 34) ≡ false → (byte == 92) ≡ false → after Inside byte ≡ Some Inside

@@ -7,6 +7,7 @@ pub mod Json
 pub mod Lexing
 pub mod Minifying
 pub mod Places
+pub mod Reading
 pub mod Report
 pub mod Spelled
 pub mod Spelling

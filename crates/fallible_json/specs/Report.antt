@@ -8,7 +8,7 @@ use Rattle.program_io.specs.declared.fault.RunFault.{RunFault}
 use Rattle.program_io.specs.declared.fault.RunFault.TheVariants.{Input, Read, Memory, Write}
 use Rattle.fallible_json.specs.Json.{not_text_at}
 use Rattle.fallible_json.specs.Taking.{◌before◌}
-use Rattle.fallible_json.specs.Texts.{TextResult, lines_of, texts_of, texts_so_far}
+use Rattle.fallible_json.specs.Texts.{IsUnbroken, TextResult, lines_of, texts_of, texts_so_far}
 use Rattle.fallible_json.specs.Writing.{printed}
 use Rattle.fallible_json.specs.declared.fault.TextFault.{TextFault}
 use Rattle.fallible_json.specs.declared.report.Prints.{Prints}
@@ -32,6 +32,7 @@ module _ (prints : Prints) (unread unread' written written' : Option (List ℕ))
     pub json : List ℕ
     pub place : ℕ × ℕ
     pub are : texts_so_far bytes ≡ texts before Err (json, not_text_at place) ∷ []
+    pub unbroken : IsUnbroken bytes
     pub wrote : Appends written written' (printed prints texts json)
 
   -- Bytes were read, the first of which have no fault, and of these the texts that ended were written; where tokens are printed, also the first ones of the text that is begun.
@@ -44,6 +45,7 @@ module _ (prints : Prints) (unread unread' written written' : Option (List ℕ))
     pub unsent : List ℕ
     pub place : ℕ × ℕ
     pub are : texts_so_far bytes ≡ texts before Err (sent ++ unsent, not_text_at place) ∷ []
+    pub unbroken : IsUnbroken bytes
     pub wrote : Appends written written' (printed prints texts sent)
 
 module _ {R W : Type 0} (left : R → Option (List ℕ)) (fails : ErrorKind → R → R → Type 0) (input input' : R) (refused : Type 0) (prints : Prints) (failed : W → Type 0) (written written' : Option (List ℕ)) (output' : W) where

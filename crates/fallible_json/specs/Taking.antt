@@ -1,5 +1,5 @@
 -- What is taken of bytes that come a part at a time, as texts.
-use Rattle.std.specs.Prelude.{◌≡◌, ℕ, ◌+◌, ◌<◌, ◌≤◌, ◌^◌, List, [], ◌∷◌, ◌++◌, length, take, drop, map, reverse, Some, Ok, Err}
+use Rattle.std.specs.Prelude.{◌≡◌, ⊤, ℕ, ◌+◌, ◌<◌, ◌≤◌, ◌^◌, List, [], ◌∷◌, ◌++◌, length, take, drop, map, reverse, Option, Some, None, Ok, Err}
 use Rattle.std.specs.declared.convert.Infallible.{Infallible}
 use Rattle.fallible_json.specs.Bytes.{placed_from}
 use Rattle.fallible_json.specs.Faults.{fault_from}
@@ -8,6 +8,7 @@ use Rattle.fallible_json.specs.Json.{fault_place, not_text_at, wanted_at}
 use Rattle.fallible_json.specs.Lexing.{Lexeme, lexed}
 use Rattle.fallible_json.specs.Minifying.{bytes_of}
 use Rattle.fallible_json.specs.Places.{place_after_bytes}
+use Rattle.fallible_json.specs.Reading.{read}
 use Rattle.fallible_json.specs.Texts.{Ending, at_end, cut, complete, TextResult, Tokens, is_joined, lines_of, texts_after, texts_from, tokens_by}
 use Rattle.fallible_json.specs.Wanted.{wanted_of}
 use Rattle.fallible_json.specs.declared.fault.JsonFault.{JsonFault}
@@ -17,6 +18,7 @@ use Rattle.fallible_json.specs.declared.minifying.Misplaced.TheVariants as mispl
 use Rattle.fallible_json.specs.declared.texts.Front.{Front}
 use Rattle.fallible_json.specs.declared.texts.Front.TheVariants.{Token, Faulty, Open}
 use Rattle.fallible_json.specs.declared.texts.Texts.{Texts}
+use Rattle.fallible_json.specs.declared.token.Phase.{Phase}
 
 -- what is begun of a text: its state, and the bytes of its tokens
 abbrev pub begun_of : Texts → State × List ℕ
@@ -72,13 +74,28 @@ pub record TakesToken (t : Texts) (bytes : List ℕ) (x : Lexeme) (u : Texts) : 
   pub place : u.place ≡ t.place
   pub once : length texts ≤ 1
 
--- So many bytes were taken: whatever comes after the bytes, and however that ends, these texts ended, and what is begun goes on with the others; of these alone no more could be taken.
+-- What bytes are left: none, or those of a token that another byte could change, which were all seen: so many, and this is what they make of it.
+abbrev pub IsLeft : Option (ℕ × Phase) → List ℕ → Type 0
+IsLeft None bytes = bytes ≡ []
+IsLeft (Some (count, phase)) bytes = (length bytes ≡ count) × (read None bytes ≡ Some (Some phase))
+
+-- Bytes begin with those that were left.
+abbrev pub BeginWithLeft : Option (ℕ × Phase) → List ℕ → Type 0
+BeginWithLeft seen bytes = (left more : List ℕ) × (bytes ≡ left ++ more) × IsLeft seen left
+
+-- Nothing was seen at a place; or it is the first, and the bytes begin with those that were left.
+abbrev pub IsSeenAt : Option (ℕ × Phase) → List ℕ → ℕ → Type 0
+IsSeenAt None bytes place = ⊤
+IsSeenAt (Some seen) bytes place = (place ≡ 0) × BeginWithLeft (Some seen) bytes
+
+-- So many bytes were taken: whatever comes after the bytes, and however that ends, these texts ended, and what is begun goes on with the others; of these alone no more could be taken, and no blank is left.
 pub record Takes (t : Texts) (bytes : List ℕ) (taken : ℕ) (u : Texts) : Type 0 where
   pub texts : List (List ℕ)
   pub ended : EndTexts t texts u
   pub within : taken ≤ length bytes
   pub goes : (rest : List ℕ) (ending : Ending) → texts_after ending t.place (begun_of t) (bytes ++ rest) ≡ texts before texts_after ending u.place (begun_of u) (drop taken bytes ++ rest)
   pub most : texts_after cut u.place (begun_of u) (drop taken bytes) ≡ Err ((begun_of u).1, not_text_at (place_after_bytes u.place (drop taken bytes))) ∷ []
+  pub left : IsLeft u.seen (drop taken bytes)
   pub counts : (n : ℕ) → CountsUpTo t n → CountsUpTo u (n + taken)
 
 -- The bytes have this fault, whatever comes after them, and these texts ended before it.
@@ -105,11 +122,11 @@ pub record FindsLastFault (t : Texts) (bytes : List ℕ) (fault : JsonFault) (u 
 abbrev pub tokens_from : Ending → ℕ → List ℕ → Tokens
 tokens_from ending place text = tokens_by ending text (lexed (placed_from place text))
 
--- A token comes first, whatever comes after the bytes; or a fault; or nothing comes that no further byte could change.
+-- A token comes first, whatever comes after the bytes; or a fault; or nothing comes that no further byte could change, and after the blanks nothing is left but what was seen of a token.
 abbrev pub IsFront : List ℕ → ℕ → Front → Type 0
 IsFront bytes place (Token first last token end) = (place < end) × (end ≤ length bytes) × (first < length bytes) × (last < length bytes) × ((rest : List ℕ) (ending : Ending) → (is_joined (bytes ++ rest) (last, token) ≡ is_joined bytes (last, token)) × (tokens_from ending place (bytes ++ rest) ≡ Ok (first, last, token) ∷ tokens_from ending end (bytes ++ rest)))
 IsFront bytes place (Faulty fault) = (fault_place bytes (misplaced.Source fault) < length bytes) × ((rest : List ℕ) (ending : Ending) → (l : Tokens) × (tokens_from ending place (bytes ++ rest) ≡ Err fault ∷ l))
-IsFront bytes place Open = tokens_from cut place bytes ≡ []
+IsFront bytes place (Open taken seen) = (place ≤ taken) × (taken ≤ length bytes) × (tokens_from cut taken bytes ≡ []) × IsLeft seen (drop taken bytes) × ((rest : List ℕ) (ending : Ending) → tokens_from ending place (bytes ++ rest) ≡ tokens_from ending taken (bytes ++ rest))
 
 -- ---- what is told
 

@@ -1,7 +1,7 @@
 -- JSON texts one after another, of their bytes.
-use Rattle.std.specs.Prelude.{ℕ, ◌+◌, ◌==◌, ◌||◌, ◌&&◌, nat_lt, not, if◌then◌else◌, Bool, true, false, Option, Some, None, Result, Ok, Err, List, [], ◌∷◌, ◌++◌, length, take, filter, flat_map, slice_index}
+use Rattle.std.specs.Prelude.{◌≡◌, ℕ, ◌+◌, ◌==◌, ◌||◌, ◌&&◌, nat_lt, not, if◌then◌else◌, Bool, true, false, Option, Some, None, Result, Ok, Err, List, [], ◌∷◌, ◌++◌, length, take, drop, filter, flat_map, slice_index}
 use Rattle.std.specs.Option.{is_some}
-use Rattle.std.specs.Str.Lossy.{utf8_valid_len}
+use Rattle.std.specs.Str.Lossy.{utf8_error_len, utf8_valid_len}
 use Rattle.std.specs.declared.convert.Infallible.{Infallible}
 use Rattle.fallible_iterator.specs.Lists.{items, numbered}
 use Rattle.fallible_json.specs.Bytes.{is_open, is_word}
@@ -98,6 +98,10 @@ texts_after ending origin b text = texts_from origin text ending b (tokens_by en
 -- The texts of an input, each without blanks, up to the first fault; where a byte is no UTF-8, that is one.
 abbrev pub texts_of : List ℕ → List TextResult
 texts_of bytes = let n = utf8_valid_len bytes in if n == length bytes then texts_after complete (1, 1) (begin, []) bytes else texts_after cut (1, 1) (begin, []) (take n bytes)
+
+-- no byte is known to be no UTF-8: what comes after the first bytes that are UTF-8 could begin a character
+abbrev pub IsUnbroken : List ℕ → Type 0
+IsUnbroken bytes = is_some (utf8_error_len (drop (utf8_valid_len bytes) bytes)) ≡ false
 
 -- The texts of the first bytes of an input that are whole there, and what is begun, as a fault of the byte after those that are UTF-8.
 abbrev pub texts_so_far : List ℕ → List TextResult

@@ -10,7 +10,7 @@ use Rattle.fallible_iterator.specs.Fault.TheVariants.{Source, Memory}
 use Rattle.fallible_json.specs.Json.{not_text_at}
 use Rattle.fallible_json.specs.Places.{place_after_bytes}
 use Rattle.fallible_json.specs.Taking.{EndTexts, FindsFault, FindsLastFault, Takes, TakesAll, begun_of, ended_of, ◌before◌}
-use Rattle.fallible_json.specs.Texts.{cut, lines_of, texts_after}
+use Rattle.fallible_json.specs.Texts.{IsUnbroken, cut, lines_of, texts_after}
 use Rattle.fallible_json.specs.declared.fault.JsonFault.{JsonFault}
 use Rattle.fallible_json.specs.declared.fault.TextFault.{TextFault}
 use Rattle.fallible_json.specs.declared.report.Prints.{Prints}
@@ -37,18 +37,20 @@ abbrev pub last_lines : Prints → Texts → List ℕ
 last_lines how.Texts t = ended_of t
 last_lines how.Tokens t = ended_of t ++ (begun_of t).1
 
--- The lines that were there were written, with the bytes `sent` of what is begun, which are none where texts are printed; some are sent only within an array or an object.
+-- The lines that were there were written, with the bytes `sent` of what is begun: none where texts are printed, and where tokens are printed all of an array or an object that is open, and none else.
 pub record Sends (prints : Prints) (written written' : Option (List ℕ)) (t u : Texts) : Type 0 where
   pub sent : List ℕ
   pub wrote : Appends written written' (ended_of t ++ sent)
   pub plain : prints ≡ how.Texts → sent ≡ []
   pub within : (sent ≡ []) ⊎ (0 < length (begun_of t).0.0)
+  pub all : prints ≡ how.Tokens → 0 < length (begun_of t).0.0 → (begun_of u).1 ≡ []
   pub state : (begun_of u).0 ≡ (begun_of t).0
   pub json : (begun_of t).1 ≡ sent ++ (begun_of u).1
   pub none : ended_of u ≡ []
   pub whole : u.whole ≤ length u.lines.items
   pub count : u.count ≡ t.count
   pub place : u.place ≡ t.place
+  pub seen : u.seen ≡ t.seen
 
 -- These texts ended, and the byte after the bytes is no UTF-8, which is this fault.
 pub record FindsBroken (t : Texts) (bytes : List ℕ) (fault : JsonFault) (u : Texts) : Type 0 where
@@ -63,9 +65,9 @@ module _ (t : Texts) (bytes : List ℕ) (checked : ℕ) where
   abbrev pub valid_of : ℕ
   valid_of = checked + utf8_valid_len (drop checked bytes)
 
-  -- Bytes were taken, and so many are UTF-8; or they have a fault, which is that of a text or of a byte that is no UTF-8; or no memory was there.
+  -- Bytes were taken, so many are UTF-8, and none is known to be no UTF-8; or they have a fault, which is that of a text or of a byte that is no UTF-8; or no memory was there.
   abbrev pub TakesPart : Type 0 → Texts → Result (ℕ × ℕ) (Fault JsonFault) → Type 0
-  TakesPart refused u (Ok (taken, valid)) = (valid ≡ valid_of) × (valid ≤ length bytes) × Takes t (take valid bytes) taken u
+  TakesPart refused u (Ok (taken, valid)) = (valid ≡ valid_of) × (valid ≤ length bytes) × Takes t (take valid bytes) taken u × IsUnbroken (drop checked bytes)
   TakesPart refused u (Err (Source f)) = (valid_of ≤ length bytes) × (FindsFault t (take valid_of bytes) f u ⊎ (FindsBroken t (take valid_of bytes) f u × (is_some (utf8_error_len (drop valid_of bytes)) ≡ true)))
   TakesPart refused u (Err (Memory e)) = refused
 

@@ -1,7 +1,7 @@
 //! What takes JSON texts, and has the memory for them.
 ghost use Rattle.std.specs.Prelude.{◌≡◌, ◌*◌, ◌<◌, ◌≤◌, ⊤, Err, IfOk, OnErr, OnOk, length, take};
 ghost use Rattle.fallible_iterator.specs.Fault.TheVariants.{Memory, Source};
-ghost use Rattle.fallible_json.specs.Taking.{FindsFault, FindsLastFault, Fits, Takes, TakesAll};
+ghost use Rattle.fallible_json.specs.Taking.{BeginWithLeft, FindsFault, FindsLastFault, Fits, Takes, TakesAll};
 ghost use Rattle.fallible_json.specs.declared.fault.JsonFault.{JsonFault};
 ghost use Rattle.std.specs.declared.alloc.AllocError.{AllocError};
 
@@ -20,9 +20,10 @@ pub trait MakeTexts {
 
     /// Takes what no further byte could change. How many of the bytes that is; or the first fault.
     ///
-    /// Requires that each count of the texts has room for twice as many bytes.
+    /// Requires that each count of the texts has room for twice as many bytes, and that these begin with what the last call left.
     fn push(&self, texts: &mut Texts, bytes: &[u8]) -> Result<usize, Fault<JsonFault>>
-        requires { Fits texts.old (2 * length bytes.now) }
+        requires fits { Fits texts.old (2 * length bytes.now) }
+        requires left { BeginWithLeft texts.old.seen bytes.now }
         ensures taken { IfOk result (λ taken. Takes texts.old bytes.now taken texts.new) }
         ensures fault { (fault : JsonFault) → result ≡ Err (Source fault)
             → FindsFault texts.old bytes.now fault texts.new }

@@ -2,7 +2,7 @@
 ghost use Rattle.std.specs.Prelude.{◌≡◌, ◌+◌, ◌-◌, ◌*◌, ◌<◌, ◌≤◌, ◌^◌, OnErr, OnOk, length, take, drop};
 ghost use Rattle.std.specs.Io.KnownBytes.{Appends};
 ghost use Rattle.fallible_json.specs.Report.{ComesTo};
-ghost use Rattle.fallible_json.specs.Taking.{Fits};
+ghost use Rattle.fallible_json.specs.Taking.{Fits, IsLeft};
 ghost use Rattle.fallible_json.specs.Writing.{CanTell, EndsFault, Fills, PrintsLast, PrintsPart, Sends, TakesLast, TakesPart, TellsFault};
 ghost use Rattle.program_io.specs.Reading.{Fails};
 
@@ -87,6 +87,7 @@ fn take_part<M: MakeTexts>(
 ) -> Result<(usize, usize), Fault<JsonFault>>
     requires within { checked ≤ length bytes.now }
     requires fits { Fits texts.old (2 * length bytes.now + 1) }
+    requires left { IsLeft texts.old.seen (take checked bytes.now) }
     ensures { TakesPart texts.old bytes.now checked (M.refused maker.now) texts.new result }
 {
     let (more, broken) = valid_len(&bytes[checked..]);
@@ -151,6 +152,7 @@ fn print_part<M: MakeTexts, W: WriteText>(
 ) -> Result<(usize, usize), RunFault<TextFault>>
     requires within { checked ≤ length bytes.now }
     requires fits { Fits texts.old (2 * length bytes.now + 1) }
+    requires left { IsLeft texts.old.seen (take checked bytes.now) }
     ensures { PrintsPart prints (W.written writer.old) (W.written writer.new) (W.failed writer.new)
         (M.refused maker.now) texts.old bytes.now checked texts.new result }
 {
@@ -219,7 +221,9 @@ fn keep_rest(buffer: &mut Vec<u8>, taken: usize, filled: usize)
     ensures rest { take (filled - taken) buffer.new.items
         ≡ take (filled - taken) (drop taken buffer.old.items) }
 {
-    buffer.copy_within(taken..filled, 0);
+    if taken > 0 {
+        buffer.copy_within(taken..filled, 0);
+    }
 }
 
 /// Reads JSON texts up to the end of `reader`, which may be any reader of std, and writes each to `writer` without the blanks between its tokens, and a newline, as soon as it ends. It fails with `Input` at the first fault of a text, with `Read` where a read fails, or after 2 ^ 61 bytes, with `Memory` if that is for want of memory or `maker` has none, and with `Write` where the writer fails. What is printed of the bytes before a fault or a failed read is written first. An interrupted read is tried again.

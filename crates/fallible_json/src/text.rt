@@ -4,7 +4,7 @@ ghost use Rattle.std.specs.declared.convert.Infallible.{Infallible};
 ghost use Rattle.fallible_iterator.specs.Laws.Showing.{lawful_listing};
 ghost use Rattle.fallible_iterator.specs.Lists.{Lists, items, numbered};
 ghost use Rattle.fallible_iterator.specs.Showing.{TakesShown, listing};
-ghost use Rattle.fallible_json.specs.Bytes.{IsSettled, KeptByDigits, LeavesAt, placed_from, run_from, shows_tokens};
+ghost use Rattle.fallible_json.specs.Bytes.{IsSettled, KeptByDigits, LeavesAt, StandsAt, placed_from, run_from, shows_tokens};
 ghost use Rattle.fallible_json.specs.Lexing.{lexed};
 ghost use Rattle.fallible_json.specs.Tokens.{after, is_blank};
 ghost use Rattle.fallible_json.specs.declared.token.Phase.{Phase};
@@ -80,7 +80,8 @@ fn phase_end(text: &[u8], from: usize, phase: Phase) -> usize
 }
 
 // Where the bytes end that go on with a token that was begun, and what the token is then.
-fn run_in(text: &[u8], from: usize, begun: Phase) -> (usize, Phase)
+#[inline(always)]
+pub(crate) fn run_in(text: &[u8], from: usize, begun: Phase) -> (usize, Phase)
     requires { 0 < from }
     ensures later { from ≤ result.0 }
     ensures within { from ≤ length text.now → result.0 ≤ length text.now }
@@ -113,6 +114,36 @@ fn run_in(text: &[u8], from: usize, begun: Phase) -> (usize, Phase)
     }
 }
 
+// What stands at a place of a text.
+pub(crate) enum Run {
+    // Blanks alone, or nothing.
+    Blank,
+    // A byte that begins no token, after its place.
+    Unknown(usize),
+    // A token, after the places of its first byte and of the end of those that go on with it, and what they make of it.
+    Begun(usize, usize, Phase),
+}
+
+// What stands at a place.
+#[inline(always)]
+pub(crate) fn run_at(text: &[u8], place: usize) -> Run
+    ensures { StandsAt text.now place result }
+{
+    let first = blanks_end(text, place);
+    if text.len() <= first {
+        return Run::Blank;
+    }
+    let byte = text[first];
+    if let Some(token) = sign_of(byte) {
+        return Run::Begun(first, first + 1, Phase::Whole(token));
+    }
+    let Some(begun) = letter_begun(byte) else {
+        return Run::Unknown(first);
+    };
+    let (end, phase) = run_in(text, first + 1, begun);
+    Run::Begun(first, end, phase)
+}
+
 // A token, after the places of its first byte and its last.
 type Drawn = Result<Option<(usize, usize, Token)>, LexFault<Infallible>>;
 
@@ -125,19 +156,11 @@ pub(crate) fn token_at(text: &[u8], place: usize) -> (Drawn, usize)
         (lexed (placed_from result.1 (text.now ++ rest))) }
     ensures leaves { LeavesAt text.now place result.0 result.1 }
 {
-    let first = blanks_end(text, place);
-    if text.len() <= first {
-        return (Ok(None), place);
+    match run_at(text, place) {
+        Run::Blank => (Ok(None), place),
+        Run::Unknown(first) => (Err(LexFault::Unknown(first)), first + 1),
+        Run::Begun(first, end, phase) => (closed(first, end - 1, phase), end),
     }
-    let byte = text[first];
-    if let Some(token) = sign_of(byte) {
-        return (Ok(Some((first, first, token))), first + 1);
-    }
-    let Some(begun) = letter_begun(byte) else {
-        return (Err(LexFault::Unknown(first)), first + 1);
-    };
-    let (end, phase) = run_in(text, first + 1, begun);
-    (closed(first, end - 1, phase), end)
 }
 
 // The tokens of a text, each after the places of its first byte and its last, as `Tokens` yields them of `PlacedBytes`. Blanks, digits and the bytes of a string are stepped over a run at a time.

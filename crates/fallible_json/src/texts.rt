@@ -1,13 +1,13 @@
 //! JSON texts one after another, of bytes that come a part at a time.
-ghost use Rattle.std.specs.Prelude.{◌≡◌, ◌+◌, ◌*◌, ◌<◌, ◌≤◌, ◌∷◌, [], IfOk, OnOk, Err, None, Option, true, false, length, drop};
+ghost use Rattle.std.specs.Prelude.{◌≡◌, ◌+◌, ◌*◌, ◌<◌, ◌≤◌, ◌∷◌, [], ℕ, IfOk, OnOk, Err, None, Option, true, false, length, drop};
 ghost use Rattle.std.specs.Option.{is_some};
 ghost use Rattle.std.specs.Str.Lossy.{utf8_error_len, utf8_valid_len};
 ghost use Rattle.fallible_iterator.specs.Fault.TheVariants.{Source};
-ghost use Rattle.fallible_json.specs.Bytes.{is_word};
+ghost use Rattle.fallible_json.specs.Bytes.{IsRunAt, IsWithin, is_word};
 ghost use Rattle.fallible_json.specs.Grammar.{after_token, begin, is_whole};
 ghost use Rattle.fallible_json.specs.Json.{not_text_at};
 ghost use Rattle.fallible_json.specs.Places.{place_after_bytes};
-ghost use Rattle.fallible_json.specs.Taking.{AddsToken, CountsUpTo, EndsAll, EndsText, FindsFault, FindsLastFault, Fits, IsFront, Takes, TakesAll, TakesToken, TakesUpTo, begun_of, ended_of, told_of, tokens_from};
+ghost use Rattle.fallible_json.specs.Taking.{AddsToken, BeginWithLeft, CountsUpTo, EndsAll, EndsText, FindsFault, FindsLastFault, Fits, IsFront, IsLeft, IsSeenAt, Takes, TakesAll, TakesToken, TakesUpTo, begun_of, ended_of, told_of, tokens_from};
 ghost use Rattle.fallible_json.specs.Texts.{at_end, cut, ends_word, is_begin, is_joined};
 ghost use Rattle.fallible_json.specs.declared.fault.JsonFault.{JsonFault};
 ghost use Rattle.fallible_json.specs.declared.minifying.Misplaced.TheVariants.{Unexpected};
@@ -18,8 +18,9 @@ use crate::json::{fault_place, wanted_at};
 use crate::lexer::LexFault;
 use crate::minifying::{Misplaced, add_byte, add_bytes};
 use crate::place::place_after_bytes;
-use crate::text::token_at;
-use crate::token::{Token, is_blank, sign_of};
+use crate::text::{Run, run_at, run_in, token_at};
+use crate::token::{Phase, Token, is_blank, sign_of, token_of};
+use crate::wanted::wanted_in;
 use fallible_iterator::Fault;
 use std::alloc::{AllocError, Global};
 use std::convert::Infallible;
@@ -64,40 +65,58 @@ pub(crate) fn valid_len(bytes: &[u8]) -> (usize, bool)
     }
 }
 
-// What stands at a place of bytes after which others may come.
+// What was seen of a token that another byte could change: how many bytes, and what they make of it.
+pub(crate) type Seen = (usize, Phase);
+
+// What stands first of bytes after which others may come.
 enum Front {
     // A token, after the places of its first byte and its last, and before the place after it.
     Token(usize, usize, Token, usize),
     // A fault.
     Faulty(LexFault<Infallible>),
-    // Blanks alone, or what another byte could change.
-    Open,
+    // What another byte could change, or nothing: where it begins, and what was seen of it.
+    Open(usize, Option<Seen>),
 }
 
-// What stands at a place.
+// What stands first, where the bytes from `first` to `end` make this phase of a token.
 #[inline(always)]
-fn front_at(bytes: &[u8], place: usize) -> Front
+fn front_of(bytes: &[u8], first: usize, end: usize, phase: Phase) -> Front
+    requires { IsWithin bytes.now first end }
+    ensures { (place : ℕ) → IsRunAt bytes.now place first end phase → IsFront bytes.now place result }
+{
+    match token_of(phase) {
+        Some(token) => {
+            if is_word(token) && bytes.len() <= end {
+                Front::Open(first, Some((end - first, phase)))
+            } else {
+                Front::Token(first, end - 1, token, end)
+            }
+        }
+        None => {
+            if bytes.len() <= end {
+                Front::Open(first, Some((end - first, phase)))
+            } else {
+                Front::Faulty(LexFault::Unfinished(end - 1, wanted_in(phase)))
+            }
+        }
+    }
+}
+
+// What stands first at a place. What was seen of it isn't looked at again.
+#[inline(always)]
+fn front_at(bytes: &[u8], place: usize, seen: Option<Seen>) -> Front
+    requires within { place ≤ length bytes.now }
+    requires seen { IsSeenAt seen bytes.now place }
     ensures { IsFront bytes.now place result }
 {
-    let (drawn, end) = token_at(bytes, place);
-    match drawn {
-        Ok(Some((first, last, token))) => {
-            if is_word(token) && bytes.len() <= last + 1 {
-                Front::Open
-            } else {
-                Front::Token(first, last, token, end)
-            }
-        }
-        Ok(None) => Front::Open,
-        Err(LexFault::Unfinished(last, wanted)) => {
-            if bytes.len() <= last + 1 {
-                Front::Open
-            } else {
-                Front::Faulty(LexFault::Unfinished(last, wanted))
-            }
-        }
-        Err(LexFault::Unknown(first)) => Front::Faulty(LexFault::Unknown(first)),
-        Err(LexFault::Source(never)) => match never {},
+    if let Some((count, begun)) = seen {
+        let (end, phase) = run_in(bytes, count, begun);
+        return front_of(bytes, 0, end, phase);
+    }
+    match run_at(bytes, place) {
+        Run::Blank => Front::Open(bytes.len(), None),
+        Run::Unknown(first) => Front::Faulty(LexFault::Unknown(first)),
+        Run::Begun(first, end, phase) => front_of(bytes, first, end, phase),
     }
 }
 
@@ -114,6 +133,8 @@ pub struct Texts {
     pub(crate) count: usize,
     // The line and the column of the byte that comes next.
     pub(crate) place: (usize, usize),
+    // What was seen of the token that comes next, if it is begun.
+    pub(crate) seen: Option<Seen>,
 }
 
 impl Texts {
@@ -124,6 +145,7 @@ impl Texts {
         ensures counts { CountsUpTo result 0 }
         ensures place { result.place ≡ (1, 1) }
         ensures whole { result.whole ≤ length result.lines.items }
+        ensures seen { result.seen ≡ None }
     {
         Texts {
             nesting: Nesting {
@@ -134,6 +156,7 @@ impl Texts {
             whole: 0,
             count: 0,
             place: (1, 1),
+            seen: None,
         }
     }
 
@@ -223,31 +246,35 @@ impl Texts {
 
     // Takes what no further byte could change. How many of the bytes that is; or the first fault.
     pub(crate) fn push(&mut self, bytes: &[u8]) -> Result<usize, Fault<JsonFault>>
-        requires { Fits self.old (2 * length bytes.now) }
+        requires fits { Fits self.old (2 * length bytes.now) }
+        requires left { BeginWithLeft self.old.seen bytes.now }
         ensures taken { IfOk result (λ taken. Takes self.old bytes.now taken self.new) }
         ensures fault { (fault : JsonFault) → result ≡ Err (Source fault)
             → FindsFault self.old bytes.now fault self.new }
     {
         match self.take_settled(bytes) {
-            Ok(taken) => {
+            Ok((taken, seen)) => {
                 self.place = place_after_bytes(self.place, &bytes[..taken]);
+                self.seen = seen;
                 Ok(taken)
             }
             Err(fault) => Err(fault),
         }
     }
 
-    // The same, but for the place.
-    fn take_settled(&mut self, bytes: &[u8]) -> Result<usize, Fault<JsonFault>>
-        requires { Fits self.old (2 * length bytes.now) }
-        ensures taken { IfOk result (λ taken. TakesUpTo self.old bytes.now taken self.new
-            × (tokens_from cut taken bytes.now ≡ [])) }
+    // The same, but for the place and what was seen, which comes after how many bytes are taken.
+    fn take_settled(&mut self, bytes: &[u8]) -> Result<(usize, Option<Seen>), Fault<JsonFault>>
+        requires fits { Fits self.old (2 * length bytes.now) }
+        requires left { BeginWithLeft self.old.seen bytes.now }
+        ensures taken { IfOk result (λ settled. TakesUpTo self.old bytes.now settled.0 self.new
+            × (tokens_from cut settled.0 bytes.now ≡ []) × IsLeft settled.1 (drop settled.0 bytes.now)) }
         ensures fault { (fault : JsonFault) → result ≡ Err (Source fault)
             → FindsFault self.old bytes.now fault self.new }
     {
         let mut at = 0;
+        let mut seen = self.seen;
         loop {
-            match front_at(bytes, at) {
+            match front_at(bytes, at, seen) {
                 Front::Token(first, last, token, end) => {
                     match self.take(bytes, first, last, token) {
                         Ok(()) => at = end,
@@ -257,8 +284,9 @@ impl Texts {
                 Front::Faulty(fault) => {
                     return Err(Fault::Source(self.told(bytes, Misplaced::Source(fault))));
                 }
-                Front::Open => return Ok(at),
+                Front::Open(taken, seen) => return Ok((taken, seen)),
             }
+            seen = None;
         }
     }
 
@@ -325,6 +353,7 @@ impl Texts {
         ensures none { ended_of self.new ≡ [] }
         ensures count { self.new.count ≡ self.old.count }
         ensures place { self.new.place ≡ self.old.place }
+        ensures seen { self.new.seen ≡ self.old.seen }
         ensures whole { self.new.whole ≤ length self.new.lines.items }
     {
         if all {

@@ -15,7 +15,8 @@ const USAGE: &str = "usage: json_tokens [--tokens] [FILE]
        json_tokens -h | --help
 Reads JSON texts, one after another, and prints each without the blanks between
 its tokens, and a newline: when the text ends, or with --tokens each token of
-an array or an object soon after it came.
+an array or an object soon after it came. Of a text that has a fault nothing is
+printed, or with --tokens the tokens before the fault.
 It reads one FILE at most, and standard input where FILE is - or none is given.
 A FILE whose name begins with - is given after --, or as ./-NAME.";
 

@@ -12,14 +12,15 @@ const BUFFER: usize = 65536;
 pub trait MakeTexts {
     /// Takes what no further byte could change. How many of the bytes that is; or the first fault.
     ///
-    /// Requires that each count of the texts has room for twice as many bytes.
+    /// Requires that each count of the texts has room for twice as many bytes, and that these begin with what the last call left.
     ///
     /// <details><summary>Contract</summary>
     ///
     /// As it is proved, in [these words](crate::words):
     ///
     /// ```text
-    /// requires { Fits texts.old (2 * length bytes.now) }
+    /// requires fits { Fits texts.old (2 * length bytes.now) }
+    /// requires left { BeginWithLeft texts.old.seen bytes.now }
     /// ensures taken { IfOk result (λ taken. Takes texts.old bytes.now taken texts.new) }
     /// ensures fault { (fault : JsonFault) → result ≡ Err (Source fault)
     ///     → FindsFault texts.old bytes.now fault texts.new }

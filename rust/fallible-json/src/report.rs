@@ -182,7 +182,9 @@ fn fill<M: MakeTexts, R: ReadBytes>(
 
 // Moves the bytes of a buffer from `taken` to `filled` to its front.
 fn keep_rest(buffer: &mut Vec<u8>, taken: usize, filled: usize) {
-    buffer.copy_within(taken..filled, 0);
+    if taken > 0 {
+        buffer.copy_within(taken..filled, 0);
+    }
 }
 
 /// Reads JSON texts up to the end of `reader`, which may be any reader of std, and writes each to `writer` without the blanks between its tokens, and a newline, as soon as it ends. It fails with `Input` at the first fault of a text, with `Read` where a read fails, or after 2 ^ 61 bytes, with `Memory` if that is for want of memory or `maker` has none, and with `Write` where the writer fails. What is printed of the bytes before a fault or a failed read is written first. An interrupted read is tried again.

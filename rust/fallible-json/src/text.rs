@@ -46,7 +46,8 @@ fn phase_end(text: &[u8], from: usize, phase: Phase) -> usize {
 }
 
 // Where the bytes end that go on with a token that was begun, and what the token is then.
-fn run_in(text: &[u8], from: usize, begun: Phase) -> (usize, Phase) {
+#[inline(always)]
+pub(crate) fn run_in(text: &[u8], from: usize, begun: Phase) -> (usize, Phase) {
     let mut at = from;
     let mut phase = begun;
     loop {
@@ -58,20 +59,45 @@ fn run_in(text: &[u8], from: usize, begun: Phase) -> (usize, Phase) {
             return (end, phase);
         }
         let byte = text[end];
-        if let Phase::Inside = phase {
-            if byte == b'"' {
-                return (end + 1, Phase::Whole(Token::Text));
-            }
+        if let Phase::Inside = phase
+            && byte == b'"'
+        {
+            return (end + 1, Phase::Whole(Token::Text));
         }
-        let next = match after(phase, byte) {
-            Some(next) => next,
-            _ => {
-                return (end, phase);
-            }
+        let Some(next) = after(phase, byte) else {
+            return (end, phase);
         };
         phase = next;
         at = end + 1;
     }
+}
+
+// What stands at a place of a text.
+pub(crate) enum Run {
+    // Blanks alone, or nothing.
+    Blank,
+    // A byte that begins no token, after its place.
+    Unknown(usize),
+    // A token, after the places of its first byte and of the end of those that go on with it, and what they make of it.
+    Begun(usize, usize, Phase),
+}
+
+// What stands at a place.
+#[inline(always)]
+pub(crate) fn run_at(text: &[u8], place: usize) -> Run {
+    let first = blanks_end(text, place);
+    if text.len() <= first {
+        return Run::Blank;
+    }
+    let byte = text[first];
+    if let Some(token) = sign_of(byte) {
+        return Run::Begun(first, first + 1, Phase::Whole(token));
+    }
+    let Some(begun) = letter_begun(byte) else {
+        return Run::Unknown(first);
+    };
+    let (end, phase) = run_in(text, first + 1, begun);
+    Run::Begun(first, end, phase)
 }
 
 // A token, after the places of its first byte and its last.
@@ -79,22 +105,11 @@ type Drawn = Result<Option<(usize, usize, Token)>, LexFault<Infallible>>;
 
 // The token that comes next at a place, and where those after it are looked for.
 pub(crate) fn token_at(text: &[u8], place: usize) -> (Drawn, usize) {
-    let first = blanks_end(text, place);
-    if text.len() <= first {
-        return (Ok(None), place);
+    match run_at(text, place) {
+        Run::Blank => (Ok(None), place),
+        Run::Unknown(first) => (Err(LexFault::Unknown(first)), first + 1),
+        Run::Begun(first, end, phase) => (closed(first, end - 1, phase), end),
     }
-    let byte = text[first];
-    if let Some(token) = sign_of(byte) {
-        return (Ok(Some((first, first, token))), first + 1);
-    }
-    let begun = match letter_begun(byte) {
-        Some(begun) => begun,
-        _ => {
-            return (Err(LexFault::Unknown(first)), first + 1);
-        }
-    };
-    let (end, phase) = run_in(text, first + 1, begun);
-    (closed(first, end - 1, phase), end)
 }
 
 // The tokens of a text, each after the places of its first byte and its last, as `Tokens` yields them of `PlacedBytes`. Blanks, digits and the bytes of a string are stepped over a run at a time.

@@ -6,8 +6,9 @@ use crate::json::{fault_place, wanted_at};
 use crate::lexer::LexFault;
 use crate::minifying::{Misplaced, add_byte, add_bytes};
 use crate::place::place_after_bytes;
-use crate::text::token_at;
-use crate::token::{Token, is_blank, sign_of};
+use crate::text::{Run, run_at, run_in, token_at};
+use crate::token::{Phase, Token, is_blank, sign_of, token_of};
+use crate::wanted::wanted_in;
 use alloc::vec::Vec;
 use core::convert::Infallible;
 use core::str::from_utf8;
@@ -41,38 +42,51 @@ pub(crate) fn valid_len(bytes: &[u8]) -> (usize, bool) {
     }
 }
 
-// What stands at a place of bytes after which others may come.
+// What was seen of a token that another byte could change: how many bytes, and what they make of it.
+pub(crate) type Seen = (usize, Phase);
+
+// What stands first of bytes after which others may come.
 enum Front {
     // A token, after the places of its first byte and its last, and before the place after it.
     Token(usize, usize, Token, usize),
     // A fault.
     Faulty(LexFault<Infallible>),
-    // Blanks alone, or what another byte could change.
-    Open,
+    // What another byte could change, or nothing: where it begins, and what was seen of it.
+    Open(usize, Option<Seen>),
 }
 
-// What stands at a place.
+// What stands first, where the bytes from `first` to `end` make this phase of a token.
 #[inline(always)]
-fn front_at(bytes: &[u8], place: usize) -> Front {
-    let (drawn, end) = token_at(bytes, place);
-    match drawn {
-        Ok(Some((first, last, token))) => {
-            if is_word(token) && bytes.len() <= last + 1 {
-                Front::Open
+fn front_of(bytes: &[u8], first: usize, end: usize, phase: Phase) -> Front {
+    match token_of(phase) {
+        Some(token) => {
+            if is_word(token) && bytes.len() <= end {
+                Front::Open(first, Some((end - first, phase)))
             } else {
-                Front::Token(first, last, token, end)
+                Front::Token(first, end - 1, token, end)
             }
         }
-        Ok(None) => Front::Open,
-        Err(LexFault::Unfinished(last, wanted)) => {
-            if bytes.len() <= last + 1 {
-                Front::Open
+        None => {
+            if bytes.len() <= end {
+                Front::Open(first, Some((end - first, phase)))
             } else {
-                Front::Faulty(LexFault::Unfinished(last, wanted))
+                Front::Faulty(LexFault::Unfinished(end - 1, wanted_in(phase)))
             }
         }
-        Err(LexFault::Unknown(first)) => Front::Faulty(LexFault::Unknown(first)),
-        Err(LexFault::Source(never)) => match never {},
+    }
+}
+
+// What stands first at a place. What was seen of it isn't looked at again.
+#[inline(always)]
+fn front_at(bytes: &[u8], place: usize, seen: Option<Seen>) -> Front {
+    if let Some((count, begun)) = seen {
+        let (end, phase) = run_in(bytes, count, begun);
+        return front_of(bytes, 0, end, phase);
+    }
+    match run_at(bytes, place) {
+        Run::Blank => Front::Open(bytes.len(), None),
+        Run::Unknown(first) => Front::Faulty(LexFault::Unknown(first)),
+        Run::Begun(first, end, phase) => front_of(bytes, first, end, phase),
     }
 }
 
@@ -89,6 +103,8 @@ pub struct Texts {
     pub(crate) count: usize,
     // The line and the column of the byte that comes next.
     pub(crate) place: (usize, usize),
+    // What was seen of the token that comes next, if it is begun.
+    pub(crate) seen: Option<Seen>,
 }
 
 impl Texts {
@@ -103,6 +119,7 @@ impl Texts {
             whole: 0,
             count: 0,
             place: (1, 1),
+            seen: None,
         }
     }
 
@@ -174,19 +191,21 @@ impl Texts {
     // Takes what no further byte could change. How many of the bytes that is; or the first fault.
     pub(crate) fn push(&mut self, bytes: &[u8]) -> Result<usize, Fault<JsonFault>> {
         match self.take_settled(bytes) {
-            Ok(taken) => {
+            Ok((taken, seen)) => {
                 self.place = place_after_bytes(self.place, &bytes[..taken]);
+                self.seen = seen;
                 Ok(taken)
             }
             Err(fault) => Err(fault),
         }
     }
 
-    // The same, but for the place.
-    fn take_settled(&mut self, bytes: &[u8]) -> Result<usize, Fault<JsonFault>> {
+    // The same, but for the place and what was seen, which comes after how many bytes are taken.
+    fn take_settled(&mut self, bytes: &[u8]) -> Result<(usize, Option<Seen>), Fault<JsonFault>> {
         let mut at = 0;
+        let mut seen = self.seen;
         loop {
-            match front_at(bytes, at) {
+            match front_at(bytes, at, seen) {
                 Front::Token(first, last, token, end) => {
                     match self.take(bytes, first, last, token) {
                         Ok(()) => at = end,
@@ -196,8 +215,9 @@ impl Texts {
                 Front::Faulty(fault) => {
                     return Err(Fault::Source(self.told(bytes, Misplaced::Source(fault))));
                 }
-                Front::Open => return Ok(at),
+                Front::Open(taken, seen) => return Ok((taken, seen)),
             }
+            seen = None;
         }
     }
 

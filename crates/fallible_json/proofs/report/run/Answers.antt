@@ -1,6 +1,6 @@
 -- Each turn keeps what the buffer holds, and each end says what was read and written.
-use Rattle.std.proofs.Common.{◌≡◌, ◌+◌, ◌-◌, ◌^◌, [], length, refl, ap, arith, length-take}
-use Rattle.fallible_json.proofs.BufferLemmas.{fault_comes, fits_held, held_read, last_comes, too_many_comes, part_comes, turn}
+use Rattle.std.proofs.Common.{◌≡◌, ◌+◌, ◌-◌, ◌^◌, ◌++◌, [], length, take, drop, refl, ap, ◌∙◌, arith, length-take, take-add}
+use Rattle.fallible_json.proofs.BufferLemmas.{fault_comes, fits_held, held_read, last_comes, left_held, too_many_comes, part_comes, turn}
 use Rattle.fallible_json.proofs.SoFarLemmas.{nothing_read}
 use Rattle.fallible_json.proofs.report.run.Goals as goal
 
@@ -14,7 +14,7 @@ loop-read-init g c =
         are = refl;
         room = omega arith;
         checked_are = refl;
-        so_far = nothing_read c.args.prints _ _ c.new-texts.result e.begun e.none e.counts e.place e.whole;
+        so_far = nothing_read c.args.prints _ _ c.new-texts.result e.begun e.none e.counts e.place e.whole e.seen;
       };
       few = omega arith;
     }
@@ -54,6 +54,14 @@ print_part-requires-clause-fits g c =
     let most = c.in-Ok.ensures.2 in
     let long = length-take (c.loop-read.held + c.in-Ok.count) c.deref-in-loop-read.result.now in
     fits_held c.loop-read.invariant.holds c.in-Ok.count _ (omega (arith, few, most)) (omega (arith, long))
+
+pub print_part-requires-clause-left : goal.print_part-requires-clause-left
+print_part-requires-clause-left g c =
+    let held = c.loop-read.held in
+    let count = c.in-Ok.count in
+    let buffer = c.fill.new.buffer.items in
+    let all : take (held + count) c.deref-in-loop-read.result.now ≡ take held c.loop-read.buffer.items ++ take count (drop held buffer) = ap (take (held + count)) c.deref-in-loop-read.ensures.value ∙ take-add held count buffer ∙ ap (λ l. l ++ take count (drop held buffer)) c.in-Ok.ensures.0 in
+    left_held c.loop-read.invariant.holds (take (held + count) c.deref-in-loop-read.result.now) (take count (drop held buffer)) all
 
 pub returns-in-Err-print_part : goal.returns-in-Err-print_part
 returns-in-Err-print_part g c = part_comes g.R.ReadBytes.left g.R.ReadBytes.fails c.args.reader.now c.loop-read.reader c.fill.new.reader (g.M.MakeTexts.refused c.args.maker.now) c.args.prints g.W.WriteText.failed (g.W.WriteText.written c.args.writer.now) (g.W.WriteText.written c.loop-read.writer) (g.W.WriteText.written c.print_part.new.writer) c.print_part.new.writer c.loop-read.invariant.holds c.fill.new.buffer.items c.deref-in-loop-read.result.now c.in-Ok.count (2 ^ 61 - c.loop-read.read) c.in-Ok.ensures c.deref-in-loop-read.ensures.value c.print_part.new.texts c.in-Err-print_part.fault c.in-Err-print_part.ensures
