@@ -59,13 +59,16 @@ pub(crate) fn run_in(text: &[u8], from: usize, begun: Phase) -> (usize, Phase) {
             return (end, phase);
         }
         let byte = text[end];
-        if let Phase::Inside = phase
-            && byte == b'"'
-        {
-            return (end + 1, Phase::Whole(Token::Text));
+        if let Phase::Inside = phase {
+            if byte == b'"' {
+                return (end + 1, Phase::Whole(Token::Text));
+            }
         }
-        let Some(next) = after(phase, byte) else {
-            return (end, phase);
+        let next = match after(phase, byte) {
+            Some(next) => next,
+            _ => {
+                return (end, phase);
+            }
         };
         phase = next;
         at = end + 1;
@@ -93,8 +96,11 @@ pub(crate) fn run_at(text: &[u8], place: usize) -> Run {
     if let Some(token) = sign_of(byte) {
         return Run::Begun(first, first + 1, Phase::Whole(token));
     }
-    let Some(begun) = letter_begun(byte) else {
-        return Run::Unknown(first);
+    let begun = match letter_begun(byte) {
+        Some(begun) => begun,
+        _ => {
+            return Run::Unknown(first);
+        }
     };
     let (end, phase) = run_in(text, first + 1, begun);
     Run::Begun(first, end, phase)

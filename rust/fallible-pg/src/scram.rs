@@ -63,7 +63,9 @@ fn concatenated(a: &[u8], b: &[u8], c: &[u8]) -> Result<Vec<u8>, Unsent> {
 /// As it is proved, in [these words](crate::words):
 ///
 /// ```text
-/// ensures { IfOk result (λ sent. vec_items sent ≡ sent_first nonce.now) }
+/// ensures { MatchResult result
+///     (λ sent. (vec_items sent ≡ sent_first nonce.now) × (length nonce.now ≤ 1073741792))
+///     (λ why. why ≡ Long → 1073741792 < length nonce.now) }
 /// ```
 /// </details>
 pub fn scram_first_message(nonce: &[u8]) -> Result<Vec<u8>, Unsent> {
@@ -118,17 +120,26 @@ fn has_parts(asked: &[u8], parts: Question<'_>) -> Result<bool, Unsent> {
     Ok(text.as_slice() == asked)
 }
 
-// The number that digits write, if they write one.
-fn rounds_of(digits: &[u8]) -> Option<u64> {
-    match from_utf8(digits) {
+// The number that a text writes, if it writes one.
+fn number_in(text: &[u8]) -> Option<u64> {
+    match from_utf8(text) {
         Ok(text) => number_of(text),
         Err(_) => None,
     }
 }
 
-// Whether a text begins with another.
-fn begins_with(text: &[u8], start: &[u8]) -> bool {
-    start.len() <= text.len() && &text[..start.len()] == start
+// The number of rounds that digits write, if they write one.
+fn rounds_of(digits: &[u8]) -> Option<u64> {
+    if digits.len() >= 1 && digits[0] > b'0' {
+        number_in(digits)
+    } else {
+        None
+    }
+}
+
+// Whether a text begins with another and goes on.
+fn goes_on_from(text: &[u8], start: &[u8]) -> bool {
+    start.len() < text.len() && &text[..start.len()] == start
 }
 
 // The first 32 bytes of two texts, joined by exclusive or.
@@ -178,17 +189,17 @@ pub struct Answer {
     wanted: Vec<u8>,
 }
 
-/// The answer to what a server asks, after the client sent a text of its own first; `None` only where the server doesn't ask well: in other words, with a number of rounds that is none, or by a text that doesn't begin with the client's or has a comma. It never fails with `Long`.
+/// The answer to what a server asks, after the client sent a text of its own first; `None` only where the server doesn't ask well: in other words, with a number of rounds that is none or begins with a 0 or a plus, or by a text that adds nothing to the client's, doesn't begin with it, or has a comma. It never fails with `Long`.
 ///
 /// <details><summary>Contract</summary>
 ///
 /// As it is proved, in [these words](crate::words):
 ///
 /// ```text
-/// ensures { IfOk result (λ found. MatchOption found
+/// ensures { MatchResult result (λ found. MatchOption found
 ///     ((nonce salt digits : List ℕ) (rounds : ℕ) → ¬ (Asks own.now asked.now nonce salt digits rounds))
 ///     (λ answer. Answers H.hash H.hmac H.stretch password.now own.now asked.now
-///     (answer_says answer) (answer_wants answer))) }
+///     (answer_says answer) (answer_wants answer))) (λ why. why ≡ Memory) }
 /// ```
 /// </details>
 pub fn answer_of<H: Hash>(
@@ -210,7 +221,7 @@ pub fn answer_of<H: Hash>(
             return Ok(None);
         }
     };
-    if !has_parts(asked, parts)? || !begins_with(parts.nonce, own) {
+    if !has_parts(asked, parts)? || !goes_on_from(parts.nonce, own) {
         return Ok(None);
     }
     let stretched = hash.stretch(password, &salt, rounds);
@@ -228,8 +239,10 @@ impl Answer {
     /// As it is proved, in [these words](crate::words):
     ///
     /// ```text
-    /// ensures { IfOk result (λ sent. vec_items sent
-    ///     ≡ sent_message (codes "p") (answer_says self.now)) }
+    /// ensures { MatchResult result
+    ///     (λ sent. (vec_items sent ≡ sent_message (codes "p") (answer_says self.now))
+    ///     × (length (answer_says self.now) ≤ 1073741819))
+    ///     (λ why. why ≡ Long → 1073741819 < length (answer_says self.now)) }
     /// ```
     /// </details>
     pub fn message(&self) -> Result<Vec<u8>, Unsent> {
