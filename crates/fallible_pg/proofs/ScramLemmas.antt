@@ -121,9 +121,9 @@ pub asks_well : {own asked nonce salt64 digits : List ℕ} {salt : List ℕ} {ro
 asks_well {own} {asked} {nonce} {salt64} {digits} nonce_is salt_is counted has_is has goes_is goes =
     let both = and_parts (nat_lt (length own) (length nonce)) (bytes_eq (take (length own) nonce) own) (sym goes_is ∙ goes) in
     record {
-  is = sym (ap (λ s. codes "r=" ++ nonce ++ codes ",s=" ++ s ++ codes ",i=" ++ digits) salt_is ∙ (bytes_eq-Decides (codes "r=" ++ nonce ++ codes ",s=" ++ salt64 ++ codes ",i=" ++ digits) asked).0 (sym has_is ∙ has));
-  counted = counted;
-  repeats = (bytes_eq-Decides (take (length own) nonce) own).0 both.1;
-  adds = ltb-true (length own) (length nonce) both.0;
-  plain = ap (before 44) nonce_is ∙ before-again 44 (drop 2 asked) ∙ sym nonce_is;
-}
+      is = sym (ap (λ s. codes "r=" ++ nonce ++ codes ",s=" ++ s ++ codes ",i=" ++ digits) salt_is ∙ (bytes_eq-Decides (codes "r=" ++ nonce ++ codes ",s=" ++ salt64 ++ codes ",i=" ++ digits) asked).0 (sym has_is ∙ has));
+      counted = counted;
+      repeats = (bytes_eq-Decides (take (length own) nonce) own).0 both.1;
+      adds = ltb-true (length own) (length nonce) both.0;
+      plain = ap (before 44) nonce_is ∙ before-again 44 (drop 2 asked) ∙ sym nonce_is;
+    }
