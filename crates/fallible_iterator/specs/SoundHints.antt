@@ -3,20 +3,11 @@ use Rattle.std.specs.Prelude.{◌≡◌, ℕ, ◌≤◌, List, [], length, Optio
 use Rattle.fallible_contract.specs.Contract.{Contract}
 use Rattle.fallible_contract.specs.BothEnds.{items_listed, failures_listed}
 pub use Rattle.fallible_contract.specs.Sound.{BoundsAbove, BoundsBelow, Brackets}
-pub use Rattle.fallible_core.specs.Laws.Hints.Brackets.{AsSound, AsSoundAsBoth}
 
 module _ {S A E : Type 0} (m : Contract S A E) (s : S) where
   -- Each hint that s may return brackets what comes from s.
   abbrev pub SoundHints : Type 0
   SoundHints = (h : ℕ × Option ℕ) → m.hints s h → Brackets m.steps s h
-
-  -- Each hint that s may return is made of one that its source may return, and is as sound as that one.
-  abbrev pub HintsAsSoundAs : {T B D : Type 0} → Contract T B D → T → Type 0
-  HintsAsSoundAs source it = (h : ℕ × Option ℕ) → m.hints s h → (k : ℕ × Option ℕ) × source.hints it k × AsSound m.steps s h source.steps it k
-
-  -- Each hint that s may return is made of one of each of two sources, and is as sound as these both.
-  abbrev pub HintsAsSoundAsBoth : {T U B C D F : Type 0} → Contract T B D → T → Contract U C F → U → Type 0
-  HintsAsSoundAsBoth left it right other = (h : ℕ × Option ℕ) → m.hints s h → (j : ℕ × Option ℕ) × (k : ℕ × Option ℕ) × left.hints it j × right.hints other k × AsSoundAsBoth m.steps s h left.steps it j right.steps other k
 
 -- The hint bounds the list: its upper bound is at least the number of items in the list, and where the list has no failure its lower bound is at most that number.
 pub record Bounds {A E : Type 0} (hint : ℕ × Option ℕ) (l : List (Result A E)) : Type 0 where

@@ -3,8 +3,7 @@ use Rattle.std.specs.Prelude.{ℕ, ◌+◌, min, Option, Some, None, Err, IsSome
 use Rattle.fallible_iterator.specs.Traces.{item, Answered}
 use Rattle.fallible_iterator.specs.Contract.{Contract}
 use Rattle.fallible_iterator.specs.Hints.{fitting_sum}
-use Rattle.fallible_iterator.specs.Cutting.Take.{as_made}
-use Rattle.fallible_iterator.specs.Sound.{SoundWhere, sound_once}
+use Rattle.fallible_iterator.specs.Sound.{SoundWhere, sound_once, as_made}
 use Rattle.fallible_itertools_adapters.specs.Plan.{HintPlan, calls, makes}
 use Rattle.fallible_itertools_adapters.specs.Staging.{Emitted, emitted_then, one_emitted, stop_answer}
 

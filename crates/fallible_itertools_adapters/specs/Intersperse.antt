@@ -11,7 +11,7 @@ use Rattle.fallible_itertools_adapters.specs.Staging.{StagedTrace, item_comes, e
 use Rattle.std.specs.declared.alloc.AllocError.{AllocError}
 use Rattle.fallible_itertools_adapters.specs.declared.intersperse.Intersperse.{Intersperse}
 use Rattle.std.proofs.Common.{refl}
-use Rattle.fallible_iterator.specs.Cutting.Take.{as_made}
+use Rattle.fallible_iterator.specs.Sound.{as_made}
 
 -- ---- what each item makes
 

@@ -9,7 +9,7 @@ use Rattle.fallible_itertools_adapters.specs.Plan.{closure_contract, none_held, 
 use Rattle.fallible_itertools_adapters.specs.Staging.{StagedTrace, item_comes}
 use Rattle.fallible_itertools_adapters.specs.declared.intersperse_with.IntersperseWith.{IntersperseWith}
 use Rattle.std.proofs.Common.{refl}
-use Rattle.fallible_iterator.specs.Cutting.Take.{as_made}
+use Rattle.fallible_iterator.specs.Sound.{as_made}
 
 module _ {F A E : Type 0} (g : Mut F (Unit {0}) (Result A E)) where
   -- where the closure may be called

@@ -10,8 +10,7 @@ use Rattle.fallible_itertools_adapters.specs.Staged.{as_function, plan_does, sta
 use Rattle.fallible_itertools_adapters.specs.Staging.{StagedTrace, ends_come, emitted_then, one_emitted}
 use Rattle.fallible_itertools_adapters.specs.declared.take_while_inclusive.TakeWhileInclusive.{TakeWhileInclusive}
 use Rattle.std.proofs.Common.{refl}
-use Rattle.fallible_iterator.specs.Cutting.Take.{as_made}
-use Rattle.fallible_iterator.specs.Sound.{sound_once}
+use Rattle.fallible_iterator.specs.Sound.{sound_once, as_made}
 
 -- The item, and after one that the predicate rejects ends come; or the predicate's failure on it.
 abbrev pub inclusive_by : {A E : Type 0} → A → Result Bool E → Transition (Unit {0}) A (Unit {0}) E

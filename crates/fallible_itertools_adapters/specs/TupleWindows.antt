@@ -11,7 +11,7 @@ use Rattle.fallible_iterator.specs.Outcome.{Outcome}
 use Rattle.fallible_iterator.specs.Outcome.TheVariants.{Kept, LeftOut, Failure, End}
 use Rattle.fallible_itertools_adapters.specs.declared.tuple_windows.TupleWindows.{TupleWindows}
 use Rattle.std.proofs.Common.{refl}
-use Rattle.fallible_iterator.specs.Cutting.Take.{as_made}
+use Rattle.fallible_iterator.specs.Sound.{as_made}
 
 module _ {A E : Type 0} (is_clone : A → A → Type 0) (is_infallible : A → Type 0) (from : AllocError → E → Type 0) where
   -- an item beside the one before it: both are yielded, the later one as a clone; if that fails to allocate, the failure converted from its `AllocError` is, and the earlier one is lost. The later one is held then.

@@ -9,7 +9,7 @@ use Rattle.fallible_iterator.specs.Outcome.{Outcome}
 use Rattle.fallible_iterator.specs.Outcome.TheVariants.{Kept, LeftOut}
 use Rattle.fallible_itertools_adapters.specs.declared.tuples.Tuples.{Tuples}
 use Rattle.std.proofs.Common.{refl}
-use Rattle.fallible_iterator.specs.Cutting.Take.{as_made}
+use Rattle.fallible_iterator.specs.Sound.{as_made}
 
 module _ {A E : Type 0} where
   -- The first item of a pair is left out, and held then. The next one is yielded beside it, and none is held then.

@@ -16,10 +16,7 @@ mod unique;
 pub use copied::law_hints_listed_copied;
 pub use counting::{law_deduped_by_with_count, law_deduped_with_count};
 pub use duplicates::law_duplicates_of;
-pub use failing::{
-    law_hints_back_err_into, law_hints_back_inspect_err, law_hints_err_into, law_hints_inspect_err,
-    law_hints_listed_err_into, law_hints_listed_inspect_err, law_hints_or_else,
-};
+pub use failing::{law_hints_listed_err_into, law_hints_listed_inspect_err};
 pub use grouping::{law_chunked, law_chunked_by};
 pub use holding::{
     law_coalesced, law_deduped, law_deduped_by, law_deduped_by_key, law_hints_past_failure,

@@ -1,12 +1,11 @@
 -- Loops by hand that look ahead: what an item, an end and a failure that were looked at make of it.
-use Rattle.std.specs.Prelude.{◌≡◌, ℕ, ◌+◌, List, [], ◌∷◌, Result, Some, None, Ok, Err}
+use Rattle.std.specs.Prelude.{◌≡◌, ℕ, List, [], ◌∷◌, Result, Some, None, Ok, Err}
 use Rattle.std.proofs.Common.{sym, subst, arith, ◌∙◌}
 use Rattle.fallible_contract.specs.Traces.{Answered}
-use Rattle.fallible_contract.specs.Contract.{Contract, Fewer, Stays, parts_as}
+use Rattle.fallible_contract.specs.Contract.{Contract, Stays}
 use Rattle.fallible_contract.specs.Lists.{Lists, nth_of}
-use Rattle.fallible_core.specs.Peeking.Peekable.{rest_look, peekable_contract, peekable_parts}
+use Rattle.fallible_core.specs.Peeking.Peekable.{rest_look}
 use Rattle.fallible_iterator.proofs.Lemmas.Loops.{CountsDown, AnswersFromHere}
-use Rattle.fallible_core.specs.declared.peeking.peekable.Peekable.{Peekable}
 
 -- A look from s returned r and left t.
 abbrev pub Looked : {S A E : Type 0} → (S → Answered A E → S → Type 0) → S → Answered A E → S → Type 0

@@ -17,7 +17,7 @@ use Rattle.fallible_iterator.specs.Making.{AnswersRefusal, AtRefusal, CollectedM
 use Rattle.std.specs.declared.alloc.AllocError.{AllocError}
 use Rattle.fallible_contract.specs.declared.collecting.Fault.{Fault}
 use Rattle.fallible_contract.specs.declared.collecting.Fault.TheVariants.{Source, Memory}
-use Rattle.fallible_contract.specs.declared.passing.Outcome.TheVariants.{Kept, LeftOut, Failure, End}
+use Rattle.fallible_contract.specs.declared.passing.Outcome.TheVariants.{Kept, LeftOut, Failure}
 use Rattle.fallible_core.specs.declared.one_to_one.map.Map.{Map}
 
 -- ---- what one call makes

@@ -1,6 +1,5 @@
 // The headline of two nests of adapters, with the definition of each type written out.
-ghost use Rattle.std.specs.Prelude.{Result, Option, List, ◌↔◌};
-ghost use Rattle.std.specs.Borrow.{Bor};
+ghost use Rattle.std.specs.Prelude.{Result, List, ◌↔◌};
 ghost use Rattle.fallible_contract.specs.Traces.{Answered, Run};
 ghost use Rattle.fallible_core.specs.OneToOne.Map.{map_parts, MapTrace};
 ghost use Rattle.fallible_core.specs.Filtering.Filter.{filter_parts, FilterTrace};

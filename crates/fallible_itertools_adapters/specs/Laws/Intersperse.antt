@@ -4,8 +4,7 @@ use Rattle.std.specs.Fn.{Mut}
 use Rattle.std.proofs.Common.{arith, inr}
 use Rattle.fallible_iterator.specs.Contract.{Contract, Lawful}
 use Rattle.fallible_iterator.specs.Sources.FromFn.{call_of_none}
-use Rattle.fallible_iterator.specs.Sound.{HintsHold}
-use Rattle.fallible_iterator.specs.Cutting.Take.{as_made}
+use Rattle.fallible_iterator.specs.Sound.{HintsHold, as_made}
 use Rattle.fallible_itertools_adapters.specs.Intersperse.{intersperse_contract, intersperse_hint_plan, intersperse_plan, separated_by, separator_cloned, fitting, interspersed_high, interspersed_items, unparted, intersperse_hint}
 use Rattle.fallible_itertools_adapters.specs.IntersperseWith.{intersperse_with_contract, takes_none}
 use Rattle.fallible_itertools_adapters.specs.Laws.Plan.{Always, ItemWeighs, is_stage_plan, lawful_closure, lawful_plan, passes_weighs}

@@ -3,8 +3,7 @@ use Rattle.std.specs.Prelude.{◌≡◌, ℕ, suc, ◌+◌, ◌-◌, ◌≤◌, 
 use Rattle.std.proofs.Common.{refl, sym, ap, arith, subst, inl, inr}
 use Rattle.fallible_iterator.specs.Traces.{Answered, end}
 use Rattle.fallible_iterator.specs.Contract.{Contract}
-use Rattle.fallible_iterator.specs.Sound.{BoundsAbove, BoundsBelow, HintsHold, sound_once}
-use Rattle.fallible_iterator.specs.Cutting.Take.{as_made}
+use Rattle.fallible_iterator.specs.Sound.{BoundsAbove, BoundsBelow, HintsHold, sound_once, as_made}
 use Rattle.fallible_itertools_adapters.specs.Laws.Plan.{Always, always_of_follows}
 use Rattle.fallible_itertools_adapters.specs.Laws.StagingHints.{StopIsDue, DueFew, EmittedFew, MakesAtMost, MakesNoFewer, bounds_above_staged, bounds_above_where_stop_due, bounds_below_staged, bounds_below_where_stop_due}
 use Rattle.fallible_itertools_adapters.specs.Plan.{HintBy, HintPlan, IsTransition, Transition, Plan, makes, passes, plan_hint, plan_meets}

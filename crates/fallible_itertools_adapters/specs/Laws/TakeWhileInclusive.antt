@@ -6,8 +6,7 @@ use Rattle.std.proofs.Common.{arith, refl}
 use Rattle.fallible_iterator.specs.Closures.{call_by_reference, takes_by_reference}
 use Rattle.fallible_iterator.specs.Contract.{Contract, Lawful}
 use Rattle.fallible_iterator.specs.Laws.Hints.Drawn.{if_some_at_least_of_smaller}
-use Rattle.fallible_iterator.specs.Sound.{HintsHold, sound_once}
-use Rattle.fallible_iterator.specs.Cutting.Take.{as_made}
+use Rattle.fallible_iterator.specs.Sound.{HintsHold, sound_once, as_made}
 use Rattle.fallible_itertools_adapters.specs.Laws.Plan.{ItemWeighs, is_stage_plan, lawful_closure, passes_weighs}
 use Rattle.fallible_itertools_adapters.specs.Plan.{none_held, passes, plan_meets, plan_hint}
 use Rattle.fallible_itertools_adapters.specs.Staging.{IsStage, ends_come, due_total, emitted_total, items_of, stage_step}

@@ -4,18 +4,16 @@ use Rattle.std.proofs.Common.{refl, subst}
 use Rattle.fallible_iterator.specs.Contract.{Contract, Lawful}
 use Rattle.fallible_iterator.specs.Hints.{hint_kept, kept_of}
 use Rattle.fallible_iterator.specs.Laws.Passing.{lawful_passing, Passes, done, keeps, closes, end_passes, failure_passes, leaves_out, passes_of_pass_trace, refuses}
-use Rattle.fallible_iterator.specs.Cutting.Take.{as_made}
 use Rattle.fallible_iterator.specs.Laws.Contract.{lawful_with_sound}
 use Rattle.fallible_iterator.specs.Laws.Hints.Drawn.{OneOfOne, as_sound_of_brackets, brackets_where_one_of_one}
 use Rattle.fallible_iterator.specs.Laws.Hints.Holding.{hold_as_made}
-use Rattle.fallible_iterator.specs.Sound.{HintsHold, SoundWhere}
+use Rattle.fallible_iterator.specs.Sound.{HintsHold, SoundWhere, as_made}
 use Rattle.fallible_iterator.specs.Traces.{Answered, end, failure, item}
 use Rattle.fallible_iterator.specs.Passing.{passing_step}
 use Rattle.fallible_iterator.specs.Laws.Hints.Brackets.{Brackets}
 use Rattle.fallible_iterator.proofs.Lemmas.ByNumber.{Leaves}
 use Rattle.fallible_iterator.proofs.Lemmas.ByNumber as by_number
-use Rattle.fallible_iterator.proofs.Lemmas.Cutting.ByNumber.{leaves_one}
-use Rattle.fallible_iterator.proofs.Lemmas.Hints.ByNumber.{brackets_kept}
+use Rattle.fallible_iterator.specs.Laws.Hints.ByNumber.{leaves_one, brackets_kept}
 use Rattle.fallible_itertools_adapters.specs.Outcomes.{as_answered_item}
 use Rattle.fallible_itertools_adapters.specs.Tuples.{tuples_asks, items_before_pair, tuples_contract}
 use Rattle.fallible_iterator.specs.Outcome.{Outcome}

@@ -3,7 +3,7 @@ use Rattle.std.specs.Prelude.{◌≡◌, ℕ, ◌+◌, ◌-◌, ◌≤◌, optio
 use Rattle.std.proofs.Common.{refl, subst, arith, length-append}
 use Rattle.fallible_iterator.specs.Traces.{Answered, Yields, item, end}
 use Rattle.fallible_iterator.specs.Hints.{hint_less}
-use Rattle.fallible_iterator.specs.Sound.{HintsHold, SoundWhere}
+use Rattle.fallible_iterator.specs.Sound.{HintsHold, SoundWhere, as_made}
 use Rattle.fallible_iterator.specs.Laws.Hints.Brackets.{Brackets}
 use Rattle.fallible_iterator.specs.Passing.{passing_step}
 use Rattle.fallible_iterator.specs.Laws.Passing.{Passes, done, end_passes, failure_passes, keeps, refuses, closes, leaves_out, passes_of_pass_trace}
@@ -14,7 +14,6 @@ use Rattle.fallible_itertools_adapters.specs.TupleWindows.{window_at, windows_as
 use Rattle.std.specs.declared.alloc.AllocError.{AllocError}
 use Rattle.fallible_iterator.specs.Outcome.{Outcome}
 use Rattle.fallible_iterator.specs.Outcome.TheVariants.{Kept, LeftOut, End}
-use Rattle.fallible_iterator.specs.Cutting.Take.{as_made}
 
 module _ {A E : Type 0} (is_clone : A → A → Type 0) (is_infallible : A → Type 0) (from : AllocError → E → Type 0) where
   abbrev asks_for_window : Option A → A → Outcome (A × A) E → Option A → Type 0

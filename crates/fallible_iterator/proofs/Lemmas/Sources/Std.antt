@@ -5,7 +5,7 @@ use Rattle.std.specs.Iterator.Runs as runs
 use Rattle.std.proofs.Common.{refl, sym, ap, subst, ◌∙◌, arith, true≢false}
 use Rattle.std.proofs.lemmas.List.{length-reverse, get_or-reverse}
 use Rattle.std.proofs.iter.runs.Made.{run, took, seen, at-is}
-use Rattle.fallible_contract.specs.Traces.{Answered, Run}
+use Rattle.fallible_contract.specs.Traces.{Answered}
 use Rattle.fallible_contract.specs.Lists.{AlwaysGives, RunsRead, RunsReadBack, result_answer}
 use Rattle.fallible_iterator.specs.Sources.Std.{std_step, std_element}
 

@@ -2,7 +2,7 @@
 use Rattle.std.specs.Prelude.{◌≡◌, ℕ, ◌+◌, Result, List, length, IfSome, [], ◌∷◌, map, ◌≤◌, Option, Some, None, Ok, Err, ◌↔◌}
 use Rattle.std.specs.Iterator.{Count, IsFinite, size, UpTo}
 use Rattle.std.proofs.Common.{refl, ap, arith, inl, inr}
-use Rattle.fallible_contract.specs.Traces.{Answered, Run, Yields, item, failure, end}
+use Rattle.fallible_contract.specs.Traces.{Answered, Run, Yields, item, failure}
 use Rattle.fallible_contract.specs.Sound.{HintsHold, BoundsAbove}
 use Rattle.std.specs.Iterator.SizeHint.{IsWithinCount}
 use Rattle.std.specs.Iterator as calls
