@@ -135,7 +135,8 @@ fn status_of(fault: &RunFault<PgInput>) -> u8 {
     match fault {
         RunFault::Input(PgInput::Server(_)) => 1,
         RunFault::Input(PgInput::Damaged(_, Damage::Cut)) => 6,
-        RunFault::Input(PgInput::Damaged(_, Damage::Tag(b'G' | b'H' | b'W' | b'c' | b'd'))) => 7,
+        // COPY, a session's start and a function's call, which aren't read.
+        RunFault::Input(PgInput::Damaged(_, Damage::Tag(tag))) if b"GHWcdKRvV".contains(tag) => 7,
         RunFault::Input(PgInput::Damaged(..)) => 5,
         RunFault::Read(_) => 2,
         RunFault::Memory => 3,
