@@ -11,6 +11,7 @@ use fallible_pg::{
     Unsent, password_message, print_rows, query_message, request_of, startup_message,
     terminate_message,
 };
+use program_io::ending::ended;
 use std::io::{BufReader, Write, stderr, stdout};
 use std::net::TcpStream;
 use std::process::ExitCode;
@@ -130,24 +131,15 @@ fn identity(number: u32) -> &'static str {
     }
 }
 
-/// The status of a fault, as of a run of the program `pg_rows`.
-fn status_of(fault: &RunFault<PgInput>) -> u8 {
-    match fault {
-        RunFault::Input(PgInput::Server(_)) => 1,
-        RunFault::Input(PgInput::Damaged(_, Damage::Cut)) => 6,
-        RunFault::Input(PgInput::Damaged(_, Damage::Tag(b'G' | b'H' | b'W' | b'c' | b'd'))) => 7,
-        RunFault::Input(PgInput::Damaged(..)) => 5,
-        RunFault::Read(_) => 2,
-        RunFault::Memory => 3,
-        RunFault::Write(_) => 4,
-    }
-}
-
 /// Says why no more rows were printed. The status.
 pub fn told(stopped: Result<(), Stopped>, errors: &mut impl Write) -> u8 {
     let (status, line) = match stopped {
         Ok(()) => return 0,
-        Err(Stopped::Run(fault)) => (status_of(&fault), fault.to_string()),
+        Err(Stopped::Run(fault)) => {
+            return match ended(Err(fault), None, errors) {
+                Ok(status) | Err(status) => status,
+            };
+        }
         Err(Stopped::Identity(number)) => {
             let name = identity(number);
             (
