@@ -46,7 +46,7 @@ def fields(crates, record):
 
 
 def runs(crates):
-    """The lines of the table of the records that say which draws a call made, with the words that are such a record."""
+    """The lines of the table of the records of draws, with the words that are such a record."""
     texts = [path.read_text(encoding="utf-8") for crate, _, path in index.files(crates)]
     records = {name: RAN.findall(fields) for text in texts for name, fields in RECORD.findall(text) if RAN.search(fields)}
     said = {name: [] for name in records}

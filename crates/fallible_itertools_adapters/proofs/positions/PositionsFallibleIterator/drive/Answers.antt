@@ -1,7 +1,7 @@
 -- The fold of its source.
 use Rattle.fallible_iterator.specs.Laws.Contract.{lawful_parts}
 use Rattle.fallible_iterator.specs.Laws.OneToOne.Enumerate.{lawful_enumerate}
-use Rattle.fallible_iterator.specs.OneToOne.Enumerate.{enumerate_made, enumerate_parts}
+use Rattle.fallible_iterator.specs.OneToOne.Enumerate.{enumerate_made}
 use Rattle.fallible_iterator.proofs.Lemmas.Folding.{holds_each_turn_of_source_fold, holds_at_each_turn_of_held, drained_of_holder}
 use Rattle.fallible_itertools_adapters.specs.Positions.{item_call, positions_outcome}
 use Rattle.fallible_itertools_adapters.proofs.positions.PositionsFallibleIterator.drive.Goals as goal
