@@ -12,6 +12,7 @@ from importlib.util import module_from_spec, spec_from_loader
 from pathlib import Path
 
 TOP = Path(__file__).resolve().parent.parent.parent
+sys.path.insert(0, str(TOP / "tools"))
 # In one process, since each run reads nearly the same files.
 LOADER = SourceFileLoader("to_rust", str(TOP / "tools/to_rust"))
 TO_RUST = module_from_spec(spec_from_loader("to_rust", LOADER))
