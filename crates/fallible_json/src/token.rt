@@ -26,7 +26,7 @@ pub enum Token {
 }
 
 // What the bytes so far of a token are.
-#[derive(Clone, Copy)]
+#[derive(Clone, Copy, Debug)]
 pub(crate) enum Phase {
     // A token that no byte goes on with.
     Whole(Token),
