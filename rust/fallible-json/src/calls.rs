@@ -181,6 +181,8 @@ impl Texts {
                 self.texts.place = place_after_bytes(self.texts.place, &self.held);
                 self.held.clear();
                 self.checked = 0;
+                // nothing is begun
+                self.texts.seen = None;
                 Ok(())
             }
             Err(fault) => self.broken_by(fault),
