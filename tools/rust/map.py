@@ -108,10 +108,8 @@ ITERTOOLS = [
     (ADAPTERS + r"/err_into\.rs", r"^ *#\[derive_where\(.*\)\]\n", "", 2),
     (ADAPTERS + r"/err_into\.rs", r"(pub\(crate\) made: PhantomData<)E>", r"\1fn() -> E>", 1),
     (ADAPTERS + r"/err_into\.rs", r"\Z", (PIECES / "err_into.rs").read_text(encoding="utf-8"), 1),
-    # Without its number it can be cloned and shown.
-    (ADAPTERS + r"/stop_after\.rs", r"^pub struct StopAfter<", r"#[derive(Clone, Debug)]\n\g<0>", 1),
-    # What most types have.
-    (JOINS + r"/merge_tree\.rs", r"^(?=pub enum MergeTree<)", "#[derive(Clone, Debug)]\n", 1),
+    # Rust's `derive` doesn't ask it of the items.
+    (JOINS + r"/kmerge(?:_by)?\.rs", r"^#\[derive\(Clone, Debug\)\]\n(?=pub struct KMerge)", "", 2),
     (JOINS + r"/kmerge\.rs", r"\Z", (PIECES / "kmerge.rs").read_text(encoding="utf-8"), 1),
     (JOINS + r"/kmerge_by\.rs", r"\Z", (PIECES / "kmerge_by.rs").read_text(encoding="utf-8"), 1),
     (r"minmax\.rs", r"^impl<T: Copy> MinMaxResult<T>", "impl<T: Clone> MinMaxResult<T>", 1),

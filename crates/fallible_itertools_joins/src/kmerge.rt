@@ -12,7 +12,7 @@ use crate::merge_tree::{MergeTree, give};
 use fallible_iterator::{FallibleIterator, Fuse};
 
 /// The items of many sources, each fused. Of two items the lesser goes first, and of equal ones the earlier source's. A failure of a source is yielded, and loses nothing that is buffered.
-#[derive(Drop)]
+#[derive(Clone, Debug, Drop)]
 pub struct KMerge<I: FallibleIterator> {
     pub(crate) tree: MergeTree<Fuse<I>>,
 }
