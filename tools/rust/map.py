@@ -108,8 +108,8 @@ ITERTOOLS = [
     (ADAPTERS + r"/err_into\.rs", r"^ *#\[derive_where\(.*\)\]\n", "", 2),
     (ADAPTERS + r"/err_into\.rs", r"(pub\(crate\) made: PhantomData<)E>", r"\1fn() -> E>", 1),
     (ADAPTERS + r"/err_into\.rs", r"\Z", (PIECES / "err_into.rs").read_text(encoding="utf-8"), 1),
-    # Rust's `derive` doesn't ask it of the items.
-    (JOINS + r"/kmerge(?:_by)?\.rs", r"^#\[derive\(Clone, Debug\)\]\n(?=pub struct KMerge)", "", 2),
+    # Rust has no `derive_where`.
+    (JOINS + r"/kmerge(?:_by)?\.rs", r"^#\[derive_where\(.*\)\]\n", "", 4),
     (JOINS + r"/kmerge\.rs", r"\Z", (PIECES / "kmerge.rs").read_text(encoding="utf-8"), 1),
     (JOINS + r"/kmerge_by\.rs", r"\Z", (PIECES / "kmerge_by.rs").read_text(encoding="utf-8"), 1),
     (r"minmax\.rs", r"^impl<T: Copy> MinMaxResult<T>", "impl<T: Clone> MinMaxResult<T>", 1),
