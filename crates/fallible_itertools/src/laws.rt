@@ -9,8 +9,7 @@ pub use failures::{law_partition_failures, law_until_failure};
 pub use fallible_itertools_adapters::laws::nests::law_nest_of_six;
 pub use fallible_itertools_adapters::laws::{
     law_chunked, law_chunked_by, law_coalesced, law_deduped, law_deduped_by, law_deduped_by_key,
-    law_deduped_by_with_count, law_deduped_with_count, law_duplicates_of, law_hints_listed_copied,
-    law_hints_listed_err_into, law_hints_listed_inspect_err, law_hints_past_failure,
+    law_deduped_by_with_count, law_deduped_with_count, law_duplicates_of, law_hints_past_failure,
     law_interspersed, law_interspersed_by, law_positioned, law_rest_peeking_take_while,
     law_taken_while_inclusive, law_tupled, law_unique_by_of, law_unique_of, law_windowed,
 };

@@ -1,9 +1,7 @@
-//! What each adapter lists, and more of hints than `law_hints` says, as functions whose body is empty or calls other laws.
+//! What each list word makes, and more of hints than `law_hints` says, as functions whose body is empty or calls other laws.
 
-mod copied;
 mod counting;
 mod duplicates;
-mod failing;
 mod grouping;
 mod holding;
 mod lengths;
@@ -13,10 +11,8 @@ mod peeking_take_while;
 mod take_while_inclusive;
 mod unique;
 
-pub use copied::law_hints_listed_copied;
 pub use counting::{law_deduped_by_with_count, law_deduped_with_count};
 pub use duplicates::law_duplicates_of;
-pub use failing::{law_hints_listed_err_into, law_hints_listed_inspect_err};
 pub use grouping::{law_chunked, law_chunked_by};
 pub use holding::{
     law_coalesced, law_deduped, law_deduped_by, law_deduped_by_key, law_hints_past_failure,
