@@ -250,11 +250,11 @@ passed_is_list [] = refl
 passed_is_list (Ok x ∷ l) = ap (λ k. Ok x ∷ k) (passed_is_list l)
 passed_is_list (Err e ∷ l) = ap (λ k. Err e ∷ k) (passed_is_list l)
 
--- `inspect` over what lists made values lists the same, up to an allocation failure
-pub made_by_inspect_of_made : {S F X B E : Type 0} {steps : S → Answered B E → S → Type 0} {g : Mut F (Bor B × Unit {0}) (Result (Unit {0}) E)} {of : X → B → Type 0} {from : AllocError → E → Type 0} {it : S} {f : F} {l : List (Result X E)} {s : Inspect S F} → inspect_parts s ≡ (it, f) → MakesOf of (λ w z. z ≡ w) from (call_by_reference g) f (λ x. tt) → ListsMade of steps from it l
+-- `inspect` over what lists made values lists the same, up to an allocation failure; the closure may change
+pub made_by_inspect_of_made : {S F X B E : Type 0} {steps : S → Answered B E → S → Type 0} {g : Mut F (Bor B × Unit {0}) (Result (Unit {0}) E)} {of : X → B → Type 0} {from : AllocError → E → Type 0} {it : S} {f : F} {l : List (Result X E)} {s : Inspect S F} → inspect_parts s ≡ (it, f) → ((k : F) (x : X) (b : B) (v : Result (Unit {0}) E) (j : F) → of x b → call_by_reference g k b v j → IsToldOrRefused (λ w z. z ≡ w) from (Ok tt) v) → ListsMade of steps from it l
     → ListsMade of (λ u r v. passing_step steps (call_by_reference g) inspect_outcome (inspect_parts u) r (inspect_parts v)) from s l
 made_by_inspect_of_made {steps = steps} {g = g} {of = of} {from = from} {it = it} {f = f} {l = l} {s = s} parts sees i = lists_made_seen of from inspect_parts (passing_step steps (call_by_reference g) inspect_outcome) s (it, f) _ _ parts (passed_is_list l)
-    (gives_told steps (call_by_reference g) inspect_outcome of of from (λ k p. k ≡ f) (λ x (u : Unit {0}). Kept x) (λ (p : Unit {0}) x. tt) (λ p x. p) (λ k p x b v j at m called. let c = stays_and_tells (call_by_reference g) of f (λ x v. IsToldOrRefused (λ w z. z ≡ w) from (Ok tt) v) sees k x b v j at m called in seen_made_of_told of from x b v c.0 m c.1) l it f tt refl i.runs)
+    (gives_told steps (call_by_reference g) inspect_outcome of of from (λ k p. Unit {0}) (λ x (u : Unit {0}). Kept x) (λ (p : Unit {0}) x. tt) (λ p x. p) (λ k p x b v j at m called. seen_made_of_told of from x b v tt m (sees k x b v j m called)) l it f tt tt i.runs)
 
 -- ---- `skip_while`
 
