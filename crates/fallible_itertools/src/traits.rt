@@ -2001,6 +2001,8 @@ pub trait FallibleItertools: FallibleIterator {
     ///
     /// It draws up to `Ok(None)` or the first failure, of this iterator or of a closure. It fails with that failure. On each item the first closure is called, through a reference, and then the second, on the value so far of the item's key. It consumes the iterator.
     ///
+    /// Rattle copies values. In Rust `init` is cloned once for each key, and at most once more; of a type that drops nothing, as a number, the value so far is cloned at each item.
+    ///
     /// Precondition: the iterator is finite.
     ///
     /// Requires: `next` may be called, the first closure may be called on each item that may come, in each state that such calls bring it to, and the second on the value so far of its key and each item that may come.

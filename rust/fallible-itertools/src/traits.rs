@@ -2295,6 +2295,8 @@ pub trait FallibleItertools: FallibleIterator + Sized {
     ///
     /// It draws up to `Ok(None)` or the first failure, of this iterator or of a closure. It fails with that failure. On each item the first closure is called, through a reference, and then the second, on the value so far of the item's key. It consumes the iterator.
     ///
+    /// Rattle copies values. In Rust `init` is cloned once for each key, and at most once more; of a type that drops nothing, as a number, the value so far is cloned at each item.
+    ///
     /// Precondition, which is not checked: the iterator is finite.
     ///
     /// ```
@@ -2344,9 +2346,9 @@ pub trait FallibleItertools: FallibleIterator + Sized {
         G: FnMut(B, Self::Item) -> Result<B, Self::Error>,
     {
         let mut it = Keyed { it: self, f: key };
-        let mut state = (HashMap::new(), f);
+        let mut state = (HashMap::new(), f, None);
         let answer = it.by_turns(&mut state, &crate::fold_by_key::FoldByKeyTurn { init });
-        let (folds, _) = state;
+        let (folds, _, _) = state;
         match answer {
             Ok(None) => Ok(folds),
             Ok(Some(e)) | Err(e) => Err(e),
