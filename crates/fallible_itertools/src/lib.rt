@@ -17,7 +17,6 @@ pub mod fold_by_key;
 pub mod fold_while;
 pub mod group_map;
 pub mod is_sorted;
-pub mod is_sorted_by;
 pub mod join;
 pub mod k_smallest;
 pub mod keyed;
