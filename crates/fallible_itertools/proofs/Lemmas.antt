@@ -10,6 +10,7 @@ pub mod FindPosition
 pub mod FoldByKey
 pub mod FoldWhile
 pub mod FromBack
+pub mod Gathering
 pub mod GroupMap
 pub mod InOrder
 pub mod Join

@@ -13,6 +13,7 @@ pub mod FindPosition
 pub mod FoldByKey
 pub mod FoldWhile
 pub mod FromBack
+pub mod Gathering
 pub mod GroupMap
 pub mod IsSorted
 pub mod Join

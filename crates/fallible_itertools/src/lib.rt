@@ -15,6 +15,7 @@ pub mod find_or_last;
 pub mod find_position;
 pub mod fold_by_key;
 pub mod fold_while;
+pub mod gathering;
 pub mod group_map;
 pub mod is_sorted;
 pub mod join;

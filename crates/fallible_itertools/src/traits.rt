@@ -106,6 +106,7 @@ use crate::exactly_one::NotOne;
 use crate::find_or_last::{FindFirstTurn, FindLastTurn};
 use crate::find_position::FindPositionTurn;
 use crate::fold_while::{FoldWhile, FoldWhileTurn, while_or_stop};
+use crate::gathering::gathered;
 use crate::group_map::GroupMap;
 use crate::is_sorted::{IsSortedByKeyTurn, IsSortedByTurn, IsSortedTurn};
 use crate::join::JoinTurn;
@@ -2413,11 +2414,8 @@ pub trait FallibleItertools: FallibleIterator {
             (λ l. ContentsOf (JoinedAs Self.Item.output separator.now) l result) }
     {
         let mut state = (false, String::new(alloc));
-        match self.drive(&mut state, &JoinTurn { separator }) {
-            Ok(None) => Ok(state.1),
-            Ok(Some(refused)) => Err(Fault::Memory(refused)),
-            Err(e) => Err(Fault::Source(e)),
-        }
+        let answer = self.drive(&mut state, &JoinTurn { separator });
+        gathered(answer, state.1)
     }
 
     /// Returns the `k` least items in a `Vec`, in order, or all if fewer come. Equal items keep their order, and the first of them are kept. It keeps at most twice `k` items at a time.
@@ -2496,11 +2494,8 @@ pub trait FallibleItertools: FallibleIterator {
             (λ l. ContentsOf (IsTailOf deque_items n) l result) }
     {
         let mut kept = VecDeque::new(alloc);
-        match self.drive(&mut kept, &tail::TailTurn { n }) {
-            Ok(None) => Ok(kept),
-            Ok(Some(refused)) => Err(Fault::Memory(refused)),
-            Err(e) => Err(Fault::Source(e)),
-        }
+        let answer = self.drive(&mut kept, &tail::TailTurn { n });
+        gathered(answer, kept)
     }
 
     /// Compares two iterators by the closure, which is called on the two items of each round. The first two that aren't equal decide. If there are none, the side that ends alone is less.
