@@ -97,6 +97,8 @@ ITERTOOLS = [
     (r"until_failure\.rs", r"^/// Returns the collection beside (?:.*\n)*?\}\n", "", 1),
     (r"traits\.rs", r"::until_failure::\{PushTurn, with_failure\};", "::until_failure::PushTurn;", 1),
     (r"fold_by_key\.rs", r"\bB: Copy\b", "B: Clone", 1),
+    (r"fold_by_key\.rs", r"\(HashMap<K, B>, F\)(?=,$)", "(HashMap<K, B>, F, Option<B>)", 1),
+    (r"fold_by_key\.rs", r" so far and the closure\.", " so far, the closure, and what may stand in the place of a value while the closure has that.", 1),
     (r"fold_by_key\.rs", r"\bFault<E>(?=[,>])", "E", 1),
     (r"fold_by_key\.rs", r"^use fallible_iterator::\{Fault, Turn\};", "use fallible_iterator::Turn;", 1),
     # std has its own sums and products.
@@ -148,7 +150,7 @@ ITERTOOLS = [
     # What an adapter of one's own is made of, which no page tells.
     (r"lib\.rs", r" WithPosition,\s+staging,\n\};\n",
      " WithPosition,\n};\n#[doc(hidden)]\npub use crate::fallible_itertools_adapters::staging;\n", 1),
-    (r"lib\.rs", r"^pub (mod (?!traits;)\w+;)", r"\1", 27),
+    (r"lib\.rs", r"^pub (mod (?!traits;)\w+;)", r"\1", 26),
     (r"lib\.rs", r"^pub mod traits;", r"#[doc(hidden)]\n\g<0>", 1),
     (r"tail\.rs", r"^use std::collections::VecDeque;", "use alloc::collections::VecDeque;", 1),
     (r"(?:all_unique|counts|group_map|join|k_smallest|partition_map|tail|until_failure)\.rs", r"\A(//.*\n\n)",
