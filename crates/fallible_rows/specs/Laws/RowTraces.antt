@@ -1,15 +1,19 @@
--- Runs of the rows of a reader are the traces that their definition names.
+-- Runs of the rows of a reader are the traces that their definition names, and their contract is lawful.
 use Rattle.std.proofs.Common.{Bool, ◌≡◌, ◌≢◌, ℕ, zero, suc, ◌+◌, ◌-◌, ◌<◌, ◌≤◌, ◌⊎◌, inl, inr, List, [], ◌∷◌, ◌++◌, length, Option, Some, None, Err, refl, sym, ap, subst, ◌∙◌, arith, append_assoc}
-use Rattle.std.specs.Prelude.{replicate, ◌↔◌}
+use Rattle.std.specs.Prelude.{replicate}
 use Rattle.std.proofs.lemmas.List.{length-append}
 use Rattle.std.proofs.lemmas.List.Elements.{All-nil}
 use Rattle.fallible_iterator.specs.Traces.{Answered, Run, failure, end}
+use Rattle.fallible_iterator.specs.Contract.{Lawful}
+use Rattle.fallible_iterator.specs.Laws.BoundsRuns.{lawful_unbounded}
 use Rattle.fallible_iterator.specs.Laws.Closures.{folds_to_in_turn}
+use Rattle.fallible_iterator.specs.Laws.Contract.{lawful_with_traces}
+use Rattle.fallible_iterator.specs.Laws.LawForm.{IsTraced}
 use Rattle.fallible_iterator.proofs.Lemmas.Callers.{turns_split}
 use Rattle.program_io.specs.Bytes.{GivesByte, GivesBytes}
 use Rattle.fallible_rows.specs.Rows.{rows, row_number}
-use Rattle.fallible_rows.specs.RowTraces.{told_place, answer_of_number, row_answer, row_answers, IsPlaced, IsOneRow, EndsByEnd, EndsByFailure, DrawsRow, row_step, StopsBetween, StopsAtEnd, StopsAtFailure, ReadsRows, RowsTrace}
-use Rattle.fallible_rows.proofs.RowLemmas.{not_newline, rows-none, rows-row, rows-one, ClosedRows, no_rows, row_then, closed_rows_of_bytes, IsClosed-row}
+use Rattle.fallible_rows.specs.RowTraces.{told_place, place_after, answer_of_number, row_answer, row_answers, IsOneRow, EndsByEnd, EndsByFailure, DrawsRow, row_step, StopsBetween, StopsAtEnd, StopsAtFailure, ReadsRows, RowsTrace, rows_contract}
+use Rattle.fallible_rows.specs.Laws.Rows.{not_newline, rows-none, rows-row, rows-one, ClosedRows, no_rows, row_then, closed_rows_of_bytes, IsClosed-row}
 use Rattle.fallible_rows.specs.declared.fault.RowFault.{RowFault}
 use Rattle.fallible_rows.specs.declared.fault.RowFault.TheVariants.{Row, Read}
 use Rattle.fallible_rows.specs.declared.rows.Ahead.{Ahead}
@@ -64,18 +68,21 @@ module _ {B : Type 0} (left : B → Option (List ℕ)) (stays : Bool → B → B
   row_answers_first place place' row bytes one next =
       ap {B = RowAnswers} (λ l. row_answer place row ∷ l) (ap (λ k. row_answers k (rows bytes)) next ∙ row_answers_told (place + 1) (rows bytes)) ∙ ap (row_answers place) (sym (rows-row row bytes one))
 
+  -- the place after a row and the others
+  place_after_first : (place place' : ℕ) (row bytes : List ℕ) → IsOneRow row → place' ≡ told_place (place + 1) → place_after place' (rows bytes) ≡ place_after place (rows (row ++ 10 ∷ bytes))
+  place_after_first place place' row bytes one next = ap (λ k. place_after k (rows bytes)) next ∙ ap (place_after place) (sym (rows-row row bytes one))
+
   -- after is where one more row leaves a
   module _ (a after : Ahead) (row : List ℕ) (one : IsOneRow row) (limit : after.left + length row + 1 ≡ a.left) (next : after.place ≡ told_place (a.place + 1)) where
     stops_reading_later : (last : B) (closed unclosed : List ℕ) (trace : RowAnswers) (p : B × Option Ahead) → StopsReading last after closed unclosed trace p → StopsReading last a (row ++ 10 ∷ closed) unclosed (row_answer a.place row ∷ trace) p
     stops_reading_later last closed unclosed trace p (inl s) =
         let long = length-append row (10 ∷ closed) in
-        let many : length (rows (row ++ 10 ∷ closed)) ≡ length (row ∷ rows closed) = ap length (rows-row row closed one) in
-        let here = s.limit in let there = s.place in
+        let here = s.limit in
         inl (record {
           after = s.after;
           none_unclosed = s.none_unclosed;
           limit = omega (arith, long, here, limit);
-          place = omega (arith, many, there, next);
+          place = s.place ∙ place_after_first a.place after.place row closed one next;
           is_left = s.is_left;
           answers = ap {B = RowAnswers} (λ l. row_answer a.place row ∷ l) s.answers ∙ row_answers_first a.place after.place row closed one next;
         })
@@ -116,18 +123,16 @@ module _ {B : Type 0} (left : B → Option (List ℕ)) (stays : Bool → B → B
 
   -- ---- from runs to traces
 
-  reads_rows-none : (r : B) (a : Ahead) (p : B × Option Ahead) → a.place ≤ 4294967295 → (r, Some a) ≡ p → ReadsRows left stays r a [] p
-  reads_rows-none r a p placed is =
-      let none : length (rows []) ≡ 0 = ap length rows-none in
-      record {
-        closed = [];
-        unclosed = [];
-        last = r;
-        given = refl;
-        are_closed = inl refl;
-        one = All-nil not_newline;
-        stopped = inl (record { after = a; none_unclosed = refl; limit = omega arith; place = omega (arith, none); is_left = sym is; answers = ap (row_answers a.place) (sym rows-none) });
-      }
+  reads_rows-none : (r : B) (a : Ahead) (p : B × Option Ahead) → (r, Some a) ≡ p → ReadsRows left stays r a [] p
+  reads_rows-none r a p is = record {
+    closed = [];
+    unclosed = [];
+    last = r;
+    given = refl;
+    are_closed = inl refl;
+    one = All-nil not_newline;
+    stopped = inl (record { after = a; none_unclosed = refl; limit = omega arith; place = ap (place_after a.place) (sym rows-none); is_left = sym is; answers = ap (row_answers a.place) (sym rows-none) });
+  }
 
   -- the bytes of one row were read, and then the rows were exhausted
   reads_rows_in_one_row : (r : B) (a : Ahead) (row : List ℕ) (last : B) (trace : RowAnswers) (p : B × Option Ahead) → IsOneRow row → GivesBytes left stays r row last → StopsAtEnd left stays last a [] row trace p ⊎ StopsAtFailure left stays last a [] row trace p → ReadsRows left stays r a trace p
@@ -156,11 +161,11 @@ module _ {B : Type 0} (left : B → Option (List ℕ)) (stays : Bool → B → B
   reads_rows_at_failure : (r : B) (a : Ahead) (row : List ℕ) (last : B) (n : ℕ) (x : Answered ℕ RowFault) (mid : B × Option Ahead) → IsOneRow row → GivesBytes left stays r row last → EndsByFailure left stays last a row x mid → ReadsRows left stays r a (x ∷ replicate n end) mid
   reads_rows_at_failure r a row last n x mid one given e = reads_rows_in_one_row r a row last (x ∷ replicate n end) mid one given (inr (record { ends = n; missed = e.missed; is_left = e.is_left; answers = ap {B = RowAnswers} (λ y. y ∷ replicate n end) e.answered ∙ ap (λ l. row_answers a.place l ++ failure Read ∷ replicate n end) (sym rows-none) }))
 
-  pub reads_rows_of_run : (trace : RowAnswers) (r : B) (a : Ahead) (p : B × Option Ahead) → a.place ≤ 4294967295 → Run RowStep (r, Some a) trace p → ReadsRows left stays r a trace p
-  reads_rows_of_run [] r a p placed ran = reads_rows-none r a p placed ran
-  reads_rows_of_run (x ∷ rest) r a p placed ran = let d : DrawsRow left stays r a x ran.0 = ran.1 in elim d.ended [
-    | inl e ↦ let next = e.place in
-        let others = reads_rows_of_run rest ran.0.0 e.after p (omega (arith, next)) (subst (λ (o : Option Ahead). Run RowStep (ran.0.0, o) rest p) e.is_left ran.2) in
+  pub reads_rows_of_run : (trace : RowAnswers) (r : B) (a : Ahead) (p : B × Option Ahead) → Run RowStep (r, Some a) trace p → ReadsRows left stays r a trace p
+  reads_rows_of_run [] r a p ran = reads_rows-none r a p ran
+  reads_rows_of_run (x ∷ rest) r a p ran = let d : DrawsRow left stays r a x ran.0 = ran.1 in elim d.ended [
+    | inl e ↦
+        let others = reads_rows_of_run rest ran.0.0 e.after p (subst (λ (o : Option Ahead). Run RowStep (ran.0.0, o) rest p) e.is_left ran.2) in
         subst (λ (y : Answered ℕ RowFault). ReadsRows left stays r a (y ∷ rest) p) (sym e.answered) (reads_rows_with_row_before a e.after d.row d.one e.limit e.place r ran.0.0 d.last rest p d.given e.newline others)
     | inr s ↦ elim s [
       | inl e ↦ let h = ends_alone_after_rows rest ran.0.0 ran.0.1 p e.is_left ran.2 in
@@ -189,12 +194,11 @@ module _ {B : Type 0} (left : B → Option (List ℕ)) (stays : Bool → B → B
   stops_after_row_of_run : (last : B) (a after : Ahead) (row closed unclosed : List ℕ) (trace : RowAnswers) (p : B × Option Ahead) → IsOneRow row → after.left + length row + 1 ≡ a.left → after.place ≡ told_place (a.place + 1) → StopsReading last a (row ++ 10 ∷ closed) unclosed trace p → StopsAfterRow last a after row closed unclosed trace p
   stops_after_row_of_run last a after row closed unclosed trace p one limit next (inl s) =
       let long = length-append row (10 ∷ closed) in
-      let many : length (rows (row ++ 10 ∷ closed)) ≡ length (row ∷ rows closed) = ap length (rows-row row closed one) in
-      let here = s.limit in let there = s.place in
+      let here = s.limit in
       record {
         rest = row_answers after.place (rows closed);
         is = s.answers ∙ sym (row_answers_first a.place after.place row closed one next);
-        stopped = inl (record { after = s.after; none_unclosed = s.none_unclosed; limit = omega (arith, long, here, limit); place = omega (arith, many, there, next); is_left = s.is_left; answers = refl });
+        stopped = inl (record { after = s.after; none_unclosed = s.none_unclosed; limit = omega (arith, long, here, limit); place = s.place ∙ sym (place_after_first a.place after.place row closed one next); is_left = s.is_left; answers = refl });
       }
   stops_after_row_of_run last a after row closed unclosed trace p one limit next (inr (inl s)) =
       let long = length-append row (10 ∷ (closed ++ unclosed)) in
@@ -225,15 +229,14 @@ module _ {B : Type 0} (left : B → Option (List ℕ)) (stays : Bool → B → B
   ahead_same_of_parts a b e d = ap (λ (n : ℕ). record { left = n; place = a.place }) e ∙ ap (λ (n : ℕ). record { left = b.left; place = n }) d
 
   -- where no row was closed
-  run_of_last_draw : (r last : B) (a : Ahead) (unclosed : List ℕ) (trace : RowAnswers) (p : B × Option Ahead) → a.place ≤ 4294967295 → GivesBytes left stays r unclosed last → IsOneRow unclosed → StopsReading last a [] unclosed trace p → Run RowStep (r, Some a) trace p
-  run_of_last_draw r last a unclosed trace p placed given one (inl s) =
-      let none : length (rows []) ≡ 0 = ap length rows-none in
-      let e = s.limit in let d = s.place in
-      let same : a ≡ s.after = ahead_same_of_parts a s.after (omega (arith, e)) (omega (arith, d, none)) in
+  run_of_last_draw : (r last : B) (a : Ahead) (unclosed : List ℕ) (trace : RowAnswers) (p : B × Option Ahead) → GivesBytes left stays r unclosed last → IsOneRow unclosed → StopsReading last a [] unclosed trace p → Run RowStep (r, Some a) trace p
+  run_of_last_draw r last a unclosed trace p given one (inl s) =
+      let e = s.limit in
+      let same : a ≡ s.after = ahead_same_of_parts a s.after (omega (arith, e)) (sym (s.place ∙ ap (place_after a.place) rows-none)) in
       let here : r ≡ last = subst (λ l. GivesBytes left stays r l last) s.none_unclosed given in
       let is : trace ≡ [] = s.answers ∙ ap (row_answers a.place) rows-none in
       subst (λ (l : RowAnswers). Run RowStep (r, Some a) l p) (sym is) (ap (λ (b : B). (b, Some a)) here ∙ ap (λ (b : Ahead). (last, Some b)) same ∙ sym s.is_left)
-  run_of_last_draw r last a [] trace p placed given one (inr (inl s)) = run_from_end s.ends s.answers (s.ended refl)
+  run_of_last_draw r last a [] trace p given one (inr (inl s)) = run_from_end s.ends s.answers (s.ended refl)
     where
       run_from_end : (n : ℕ) → trace ≡ row_answers a.place (rows []) ++ replicate n end → 0 < n → Run RowStep (r, Some a) trace p
       run_from_end zero e some = absurd (omega arith)
@@ -241,20 +244,20 @@ module _ {B : Type 0} (left : B → Option (List ℕ)) (stays : Bool → B → B
           let is : trace ≡ end ∷ replicate n end = e ∙ ap (λ l. row_answers a.place l ++ replicate (suc n) end) rows-none in
           let d : DrawsRow left stays r a end p = record { row = []; one = one; last = last; given = given; ended = inr (inl (record { met_end = s.met_end; limit = s.limit; is_left = s.is_left; answered = inl (refl, refl) })) } in
           subst (λ (l : RowAnswers). Run RowStep (r, Some a) l p) (sym is) (p, d, run_of_ends_after n p s.is_left)
-  run_of_last_draw r last a (x ∷ xs) trace p placed given one (inr (inl s)) =
+  run_of_last_draw r last a (x ∷ xs) trace p given one (inr (inl s)) =
       let some : (x ∷ xs) ≢ [] = λ e. cc in
       let is : trace ≡ row_answer a.place (x ∷ xs) ∷ replicate s.ends end = s.answers ∙ ap (λ l. row_answers a.place l ++ replicate s.ends end) (rows-one (x ∷ xs) one some) in
       let d : DrawsRow left stays r a (row_answer a.place (x ∷ xs)) p = record { row = x ∷ xs; one = one; last = last; given = given; ended = inr (inl (record { met_end = s.met_end; limit = s.limit; is_left = s.is_left; answered = inr (some, refl) })) } in
       subst (λ (l : RowAnswers). Run RowStep (r, Some a) l p) (sym is) (p, d, run_of_ends_after s.ends p s.is_left)
-  run_of_last_draw r last a unclosed trace p placed given one (inr (inr s)) =
+  run_of_last_draw r last a unclosed trace p given one (inr (inr s)) =
       let is : trace ≡ failure Read ∷ replicate s.ends end = s.answers ∙ ap (λ l. row_answers a.place l ++ failure Read ∷ replicate s.ends end) rows-none in
       let d : DrawsRow left stays r a (failure Read) p = record { row = unclosed; one = one; last = last; given = given; ended = inr (inr (record { missed = s.missed; is_left = s.is_left; answered = refl })) } in
       subst (λ (l : RowAnswers). Run RowStep (r, Some a) l p) (sym is) (p, d, run_of_ends_after s.ends p s.is_left)
 
-  run_from_closed_rows : (closed : List ℕ) → ClosedRows closed → (r last : B) (a : Ahead) (unclosed : List ℕ) (trace : RowAnswers) (p : B × Option Ahead) → a.place ≤ 4294967295 → GivesBytes left stays r (closed ++ unclosed) last → IsOneRow unclosed → StopsReading last a closed unclosed trace p → Run RowStep (r, Some a) trace p
-  run_from_closed_rows closed (no_rows e) r last a unclosed trace p placed given one s =
-      run_of_last_draw r last a unclosed trace p placed (subst (λ l. GivesBytes left stays r (l ++ unclosed) last) e given) one (subst (λ l. StopsReading last a l unclosed trace p) e s)
-  run_from_closed_rows closed (row_then row rest e is_one h) r last a unclosed trace p placed given one s =
+  run_from_closed_rows : (closed : List ℕ) → ClosedRows closed → (r last : B) (a : Ahead) (unclosed : List ℕ) (trace : RowAnswers) (p : B × Option Ahead) → GivesBytes left stays r (closed ++ unclosed) last → IsOneRow unclosed → StopsReading last a closed unclosed trace p → Run RowStep (r, Some a) trace p
+  run_from_closed_rows closed (no_rows e) r last a unclosed trace p given one s =
+      run_of_last_draw r last a unclosed trace p (subst (λ l. GivesBytes left stays r (l ++ unclosed) last) e given) one (subst (λ l. StopsReading last a l unclosed trace p) e s)
+  run_from_closed_rows closed (row_then row rest e is_one h) r last a unclosed trace p given one s =
       let joined : closed ++ unclosed ≡ row ++ 10 ∷ (rest ++ unclosed) = ap (λ l. l ++ unclosed) e ∙ append_assoc row (10 ∷ rest) unclosed in
       let parts = turns_split (GivesByte left stays) row (10 ∷ (rest ++ unclosed)) r last (subst (λ l. GivesBytes left stays r l last) joined given) in
       let stopped : StopsReading last a (row ++ 10 ∷ rest) unclosed trace p = subst (λ l. StopsReading last a l unclosed trace p) e s in
@@ -265,11 +268,14 @@ module _ {B : Type 0} (left : B → Option (List ℕ)) (stays : Bool → B → B
       let t = stops_after_row_of_run last a after row rest unclosed trace p is_one limit refl stopped in
       let q = parts.2.0 in
       let d : DrawsRow left stays r a (row_answer a.place row) (q, Some after) = record { row = row; one = is_one; last = parts.0; given = parts.1; ended = inl (record { after = after; newline = parts.2.1; limit = limit; place = refl; is_left = refl; answered = refl }) } in
-      subst (λ (l : RowAnswers). Run RowStep (r, Some a) l p) (sym t.is) ((q, Some after), d, run_from_closed_rows rest h q last after unclosed t.rest p (omega arith) parts.2.2 one t.stopped)
+      subst (λ (l : RowAnswers). Run RowStep (r, Some a) l p) (sym t.is) ((q, Some after), d, run_from_closed_rows rest h q last after unclosed t.rest p parts.2.2 one t.stopped)
 
-  pub run_of_reads_rows : (trace : RowAnswers) (r : B) (a : Ahead) (p : B × Option Ahead) → a.place ≤ 4294967295 → ReadsRows left stays r a trace p → Run RowStep (r, Some a) trace p
-  run_of_reads_rows trace r a p placed h = run_from_closed_rows h.closed (closed_rows_of_bytes h.closed h.are_closed) r h.last a h.unclosed trace p placed h.given h.one h.stopped
+  pub run_of_reads_rows : (trace : RowAnswers) (r : B) (a : Ahead) (p : B × Option Ahead) → ReadsRows left stays r a trace p → Run RowStep (r, Some a) trace p
+  run_of_reads_rows trace r a p h = run_from_closed_rows h.closed (closed_rows_of_bytes h.closed h.are_closed) r h.last a h.unclosed trace p h.given h.one h.stopped
 
-  pub rows_run_iff_trace : (trace : RowAnswers) (p q : B × Option Ahead) → IsPlaced p → Run RowStep p trace q ↔ RowsTrace left stays p trace q
-  rows_run_iff_trace trace (r, Some a) q placed = (reads_rows_of_run trace r a q placed, run_of_reads_rows trace r a q placed)
-  rows_run_iff_trace trace (r, None) q placed = (ends_alone_after_rows trace r None q refl, (λ h. subst (λ (l : RowAnswers). Run RowStep (r, None) l q) (sym h.0.1) (subst (λ (u : B × Option Ahead). Run RowStep (r, None) (replicate h.0.0 end) u) (sym h.1) (run_of_ends h.0.0 r))))
+  pub rows_run_iff_trace : IsTraced RowStep (RowsTrace left stays)
+  rows_run_iff_trace (r, Some a) trace q = (reads_rows_of_run trace r a q, run_of_reads_rows trace r a q)
+  rows_run_iff_trace (r, None) trace q = (ends_alone_after_rows trace r None q refl, (λ h. subst (λ (l : RowAnswers). Run RowStep (r, None) l q) (sym h.0.1) (subst (λ (u : B × Option Ahead). Run RowStep (r, None) (replicate h.0.0 end) u) (sym h.1) (run_of_ends h.0.0 r))))
+
+  pub lawful_rows : Lawful (rows_contract left stays)
+  lawful_rows = lawful_with_traces (RowsTrace left stays) rows_run_iff_trace (lawful_unbounded RowStep)
