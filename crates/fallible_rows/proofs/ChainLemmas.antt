@@ -1,5 +1,5 @@
 -- What the rows of a reader returned, where `take` and `filter` stand above them.
-use Rattle.std.proofs.Common.{◌≡◌, ℕ, ◌++◌, ◌∷◌, [], ◌⊎◌, ◌<◌, ◌≤◌, inl, inr, List, Bool, length, map, subst, Option, Some, Result, Ok, count_by, ap, ◌∙◌}
+use Rattle.std.proofs.Common.{◌≡◌, ℕ, ◌++◌, ◌∷◌, [], ◌⊎◌, ◌<◌, inl, inr, List, Bool, length, map, subst, Option, Some, Result, Ok, count_by, ap, ◌∙◌}
 use Rattle.std.specs.Fn.{Mut}
 use Rattle.std.specs.Borrow.{Bor}
 use Rattle.std.proofs.lemmas.List.Sums.{length-filter}

@@ -1,8 +1,8 @@
 -- What the chain's rows returned is what was read, and the reader is the one that was lent.
 use Rattle.std.proofs.Common.{rules, tests, ◌≡◌, ◌-◌, ◌^◌, sym, subst, refl}
 use Rattle.fallible_iterator.specs.Laws.Contract.{lawful_parts}
-use Rattle.fallible_iterator.specs.Cutting.Take.{take_made, take_parts}
-use Rattle.fallible_iterator.specs.Filtering.Filter.{filter_made, filter_parts}
+use Rattle.fallible_iterator.specs.Cutting.Take.{take_made}
+use Rattle.fallible_iterator.specs.Filtering.Filter.{filter_made}
 use Rattle.fallible_iterator.specs.Laws.Cutting.Take.{lawful_take}
 use Rattle.fallible_iterator.specs.Laws.Filtering.Filter.{lawful_filter}
 use Rattle.fallible_iterator.proofs.Lemmas.Callers.{count_exit_of_folded, holds_each_turn_counting}
