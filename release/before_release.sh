@@ -16,10 +16,10 @@ steps() {
     cat <<'END'
 version|release/version.sh|at once
 names|tools/gone_names|at once
+library|tools/library pack out/library.tar.xz|minutes, once the library is proved
 edits|tools/edits --release|an hour, and the proof of each crate that has some
 pairs|release/release_pairs.sh|three builds of minutes each
-devices|release/closed_devices.sh|a minute, once count_rows is proved
-tables|release/table_runs.sh|a minute, once sum_table and sum_groups are proved
+devices|release/device_runs|a minute, once each program is proved
 groups|release/groups_runs|minutes, once sum_groups is proved
 elf|release/elf_runs|minutes, once elf_tables is proved
 pg|release/pg_runs|2 minutes, once pg_rows is proved; wants PostgreSQL, cargo and GNU time

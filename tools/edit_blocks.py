@@ -3,7 +3,7 @@
 
 def files(crate):
     """The files of edits of a crate's folder, but of `out/`."""
-    return [path for path in sorted(crate.rglob("*.edit")) if path.relative_to(crate).parts[0].endswith(("-edits", "must-fail"))]
+    return [path for path in sorted(crate.rglob("*.edit")) if path.relative_to(crate).parts[0].endswith("-edits")]
 
 
 def blocks(file):

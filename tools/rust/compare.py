@@ -16,7 +16,7 @@ REASONS = [
     (r"sources/std_fold\.rs", r".*Progressing\.(next|next_back)", "left out", "no fold needs `Progressing`"),
     (r"fallible_core/traits/b\w+\.rs", r".*\.(drive|drive_back)", "left out",
      "`I` may have no size; the trait's own loop serves"),
-    (r"fallible_core/number\.rs", r".*Number\.(drop|one_less)", "left out", "a number has no bytes"),
+    (r"fallible_core/number\.rs", r".*Number\.(drop|clone|fmt|same|one_less)", "left out", "a number has no bytes"),
     (r"fallible_core/traits\.rs", r"FallibleIterator\.number", "left out", "a number has no bytes"),
     (r"fallible_core/traits\.rs", r"From for Stop\.from", "new", "why a caller's fold stopped"),
     (r".*", r"FallibleIterator(?: for .*)?\.drive_to", "left out", "`count`, `last` and `nth` are calls of their own"),

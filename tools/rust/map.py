@@ -97,6 +97,8 @@ ITERTOOLS = [
     (r"traits\.rs", r"^use crate::until_failure::with_failure;\n", "", 1),
     (r"lib\.rs", r"^pub mod until_failure;\n", "", 1),
     (r"fold_by_key\.rs", r"\bB: Copy\b", "B: Clone", 1),
+    (r"fold_by_key\.rs", r"\(HashMap<K, B>, F\)(?=,$)", "(HashMap<K, B>, F, Option<B>)", 1),
+    (r"fold_by_key\.rs", r" so far and the closure\.", " so far, the closure, and what may stand in the place of a value while the closure has that.", 1),
     (r"fold_by_key\.rs", r"\bFault<E>(?=[,>])", "E", 1),
     (r"fold_by_key\.rs", r"^use fallible_iterator::\{Fault, Turn\};", "use fallible_iterator::Turn;", 1),
     # std has its own sums and products.
@@ -108,10 +110,8 @@ ITERTOOLS = [
     (ADAPTERS + r"/err_into\.rs", r"^ *#\[derive_where\(.*\)\]\n", "", 2),
     (ADAPTERS + r"/err_into\.rs", r"(pub\(crate\) made: PhantomData<)E>", r"\1fn() -> E>", 1),
     (ADAPTERS + r"/err_into\.rs", r"\Z", (PIECES / "err_into.rs").read_text(encoding="utf-8"), 1),
-    # Without its number it can be cloned and shown.
-    (ADAPTERS + r"/stop_after\.rs", r"^pub struct StopAfter<", r"#[derive(Clone, Debug)]\n\g<0>", 1),
-    # What most types have.
-    (JOINS + r"/merge_tree\.rs", r"^(?=pub enum MergeTree<)", "#[derive(Clone, Debug)]\n", 1),
+    # Rust has no `derive_where`.
+    (JOINS + r"/kmerge(?:_by)?\.rs", r"^#\[derive_where\(.*\)\]\n", "", 4),
     (JOINS + r"/kmerge\.rs", r"\Z", (PIECES / "kmerge.rs").read_text(encoding="utf-8"), 1),
     (JOINS + r"/kmerge_by\.rs", r"\Z", (PIECES / "kmerge_by.rs").read_text(encoding="utf-8"), 1),
     (r"minmax\.rs", r"^impl<T: Copy> MinMaxResult<T>", "impl<T: Clone> MinMaxResult<T>", 1),

@@ -4,7 +4,6 @@ pub mod Ascii
 pub mod Between
 pub mod Down
 pub mod Full
-pub mod Means
 pub mod Pairs
 pub mod Reading
 pub mod Retried

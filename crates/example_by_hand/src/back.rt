@@ -21,17 +21,6 @@ use fallible_iterator::{
 };
 use std::alloc::{AllocError, Global};
 
-/// The last reading, or a failure in its place; `None` if there is no reading.
-pub fn last_drawn(readings: Vec<Result<u32, u8>>) -> Result<Option<u32>, u8>
-    ensures last { (front : List (Result ℕ ℕ)) (last : ℕ)
-        → readings.items ≡ front ++ Ok last ∷ [] → result ≡ Ok (Some last) }
-    ensures fails { (front : List (Result ℕ ℕ)) (e : ℕ)
-        → readings.items ≡ front ++ Err e ∷ [] → result ≡ Err e }
-    ensures none { readings.items ≡ [] → result ≡ Ok None }
-{
-    convert(readings.into_iter()).next_back()
-}
-
 /// The first reading and the last one, which are drawn in turn, or a failure in the place of one; `None` if there are fewer than two.
 pub fn first_and_last(readings: Vec<Result<u32, u8>>) -> Result<Option<(u32, u32)>, u8>
     ensures both { (first last : ℕ) (between : List (Result ℕ ℕ))
@@ -70,13 +59,6 @@ pub fn count_between(readings: Vec<Result<u32, u8>>) -> Result<usize, u8>
     it.next()?;
     it.next_back()?;
     it.count()
-}
-
-/// The readings, the last one first, or the first failure from the back.
-pub fn last_first(alloc: Global, readings: Vec<Result<u32, u8>>) -> Result<Vec<u32>, Fault<u8>>
-    ensures { CollectedAs (λ xs v. v.items ≡ xs) (reversed (results readings.items)) result }
-{
-    convert(readings.into_iter()).rev().collect(alloc)
 }
 
 /// The sum of the readings from the back, modulo 2 ^ 64, or the first failure from the back. The law says what `convert` lists from the back; no `rev` is needed.

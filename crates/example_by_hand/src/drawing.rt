@@ -1,31 +1,9 @@
 //! Draws by hand.
 ghost use Rattle.std.specs.Prelude.{◌≡◌, ◌+◌, ◌*◌, ◌%◌, ◌^◌, ℕ, List, [], ◌∷◌, Result, Option, Ok, Err, Some, None, false, min, nat_lt};
-ghost use Rattle.fallible_iterator.specs.Lists.{Lists, rest_first, rest_nth, chained, filtered, first_if, folded, items, look_of, mapped, nth_of, on_value, results, taken, taken_while, zipped, rest_look};
+ghost use Rattle.fallible_iterator.specs.Lists.{Lists, rest_first, rest_nth, chained, filtered, first_if, folded, items, look_of, nth_of, on_value, results, taken, taken_while, zipped, rest_look};
 
 use fallible_iterator::laws::{law_next, law_peek, law_take_for_good, law_take_while_for_good};
 use fallible_iterator::{FallibleIterator, Peekable, convert};
-
-/// The third of the doubled readings above 100 among the first ten, or the failure of a draw before. No clause says what it returns if there are fewer than two.
-pub fn third_draw(readings: Vec<Result<u32, u8>>) -> Result<Option<u64>, u8>
-    ensures third { let l : List (Result ℕ ℕ) = mapped (λ x. Ok (x * 2))
-        (filtered (λ x. Ok (nat_lt 100 x)) (taken 10 (results readings.items))) in (x y : ℕ)
-        → nth_of 0 l ≡ Ok (Some x) → nth_of 0 (rest_first l) ≡ Ok (Some y)
-        → result ≡ nth_of 0 (rest_first (rest_first l)) }
-    ensures first_fails { let l : List (Result ℕ ℕ) = mapped (λ x. Ok (x * 2))
-        (filtered (λ x. Ok (nat_lt 100 x)) (taken 10 (results readings.items))) in (e : ℕ)
-        → nth_of 0 l ≡ Err e → result ≡ Err e }
-    ensures second_fails { let l : List (Result ℕ ℕ) = mapped (λ x. Ok (x * 2))
-        (filtered (λ x. Ok (nat_lt 100 x)) (taken 10 (results readings.items))) in (x e : ℕ)
-        → nth_of 0 l ≡ Ok (Some x) → nth_of 0 (rest_first l) ≡ Err e → result ≡ Err e }
-{
-    let mut doubled = convert(readings.into_iter())
-        .take(10)
-        .filter(|reading| Ok(*reading > 100))
-        .map(|reading| Ok(u64::from(reading) * 2));
-    doubled.draw()?;
-    doubled.draw()?;
-    doubled.draw()
-}
 
 /// The first two readings, of which the second is only looked at, or a failure in their place; `None` in the place of one that isn't there.
 pub fn first_two(readings: Vec<Result<u32, u8>>) -> Result<(Option<u32>, Option<u32>), u8>

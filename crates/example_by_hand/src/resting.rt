@@ -1,7 +1,7 @@
 //! What is left after a call through a borrow.
 ghost use Rattle.std.specs.Prelude.{◌≡◌, ◌-◌, ◌^◌, ℕ, eqb, List, Option, Result, Ok, Err, Some, None};
 ghost use Rattle.fallible_iterator.specs.Contract.{AtMost};
-ghost use Rattle.fallible_iterator.specs.Lists.{Lists, rest_first, rest_true, counted, found, rest_look, nth_of, on_value, position_in, results};
+ghost use Rattle.fallible_iterator.specs.Lists.{Lists, rest_true, counted, found, rest_look, nth_of, on_value, position_in, results};
 
 use fallible_iterator::{FallibleIterator, convert};
 
@@ -41,21 +41,6 @@ where
         Some(_) => it.count(),
         None => Ok(0),
     }
-}
-
-/// How many readings come after the first two, or the first failure. No clause says what it returns if there are fewer than two.
-pub fn count_after_two(readings: Vec<Result<u32, u8>>) -> Result<usize, u8>
-    ensures value { (x y : ℕ) → nth_of 0 (results readings.items) ≡ Ok (Some x)
-        → nth_of 0 (rest_first (results readings.items)) ≡ Ok (Some y)
-        → result ≡ counted (rest_first (rest_first (results readings.items))) }
-    ensures first_fails { (e : ℕ) → nth_of 0 (results readings.items) ≡ Err e → result ≡ Err e }
-    ensures second_fails { (x e : ℕ) → nth_of 0 (results readings.items) ≡ Ok (Some x)
-        → nth_of 0 (rest_first (results readings.items)) ≡ Err e → result ≡ Err e }
-{
-    let mut left = convert(readings.into_iter());
-    left.draw()?;
-    left.draw()?;
-    left.count()
 }
 
 /// The first item, which is looked at, and how many there are, or the first failure.

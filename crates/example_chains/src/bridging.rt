@@ -1,5 +1,5 @@
 //! Callers that pass a fallible iterator to std, and take it back.
-ghost use Rattle.std.specs.Prelude.{◌≡◌, ℕ, ◌+◌, ◌-◌, ◌%◌, ◌^◌, ◌<◌, ◌≤◌, Ok, Err, Some, None, List, Option, Result, length, sum, IfOk, MatchOption, filter, is_err, nat_lt, take, slice_index_or};
+ghost use Rattle.std.specs.Prelude.{◌≡◌, ℕ, ◌+◌, ◌-◌, ◌%◌, ◌^◌, ◌<◌, ◌≤◌, Ok, Err, Some, None, List, Option, Result, length, IfOk, MatchOption, filter, is_err, nat_lt, take, slice_index_or};
 ghost use Rattle.std.specs.Iterator.{IsFinite};
 ghost use Rattle.fallible_iterator.specs.Contract.{NeverFails};
 ghost use Rattle.fallible_iterator.specs.Lists.{Lists, items, results, counted, mapped, filtered, taken, nth_of, rest_first, rest_nth};
@@ -10,13 +10,6 @@ use fallible_iterator::laws::{law_back_convert, law_back_iterator, law_iterator}
 use fallible_iterator::{Convert, FallibleIterator, IteratorExt, Take, convert};
 use std::alloc::{AllocError, Global};
 use std::fmt::Debug;
-
-/// How many readings there are, failures among them.
-pub fn elements(readings: Vec<Result<u32, u8>>) -> usize
-    ensures { result ≡ length (results readings.items) }
-{
-    convert(readings.into_iter()).iterator().count()
-}
 
 /// How many readings there are, failures among them, counted from the back.
 pub fn elements_from_back(readings: Vec<Result<u32, u8>>) -> usize
@@ -110,14 +103,6 @@ pub fn number_of(numbers: Vec<u32>) -> usize
     ensures { result ≡ length (unwrapped {E = Infallible} (items numbers.items)) }
 {
     numbers.into_iter().into_fallible().unwrap().count()
-}
-
-/// The sum of the numbers, which fits.
-pub fn total(numbers: Vec<u32>) -> u32
-    requires { sum numbers.items < 2 ^ 32 }
-    ensures { result ≡ sum numbers.items }
-{
-    numbers.into_iter().into_fallible().unwrap().sum()
 }
 
 /// How many of the first ten readings are above 100, on the way to std and back, up to the tenth taken by a fallible adapter.

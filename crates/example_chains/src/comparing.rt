@@ -11,20 +11,6 @@ use fallible_iterator::{FallibleIterator, Peekable, convert, repeat};
 use std::alloc::AllocError;
 use std::cmp::Ordering;
 
-/// How the doubled readings of the left compare with the readings above 100 of the right, or the failure that comes first.
-pub fn order_of_doubled(
-    left: Vec<Result<u32, u8>>,
-    right: Vec<Result<u32, u8>>,
-) -> Result<Ordering, u8>
-    ensures { read_as (λ o. Some o) result ≡ compared (by_cmp nat_cmp)
-        (mapped (λ x. Ok (x * 2 % 2 ^ 32)) (results left.items))
-        (filtered (λ x. Ok (nat_lt 100 x)) (results right.items)) }
-{
-    convert(left.into_iter())
-        .map(|reading: u32| Ok(reading.wrapping_mul(2)))
-        .cmp(convert(right.into_iter()).filter(|reading| Ok(*reading > 100)))
-}
-
 /// How the first ten readings of the left compare with those of the right after its first one, or the failure that comes first.
 pub fn order_of_ten(
     left: Vec<Result<u32, u8>>,
@@ -44,17 +30,6 @@ pub fn same_readings(left: Vec<Result<u32, u8>>, right: Vec<Result<u32, u8>>) ->
         (compared (by_eq nat_eq) (results left.items) (results right.items)) }
 {
     convert(left.into_iter()).eq(convert(right.into_iter()))
-}
-
-/// Whether both sides have the same readings above 100, or the failure that comes first.
-pub fn same_above_100(left: Vec<Result<u32, u8>>, right: Vec<Result<u32, u8>>) -> Result<bool, u8>
-    ensures { result ≡ read_as reads_eq
-        (compared (by_eq nat_eq) (filtered (λ x. Ok (nat_lt 100 x)) (results left.items))
-        (filtered (λ x. Ok (nat_lt 100 x)) (results right.items))) }
-{
-    convert(left.into_iter())
-        .filter(|reading| Ok(*reading > 100))
-        .eq(convert(right.into_iter()).filter(|reading| Ok(*reading > 100)))
 }
 
 /// Whether the doubled readings of the left differ from the readings of the right, or the failure that comes first.

@@ -1,6 +1,6 @@
 //! What chains of calls compute.
 ghost use Rattle.std.specs.Prelude.{◌≡◌, ◌+◌, ◌*◌, ◌/◌, ◌%◌, ◌^◌, ◌<◌, [], ◌∷◌, List, Result, Ok, Err, Option, Some, None, nat_lt, if◌then◌else◌, ◌-◌, nat_eq, length};
-ghost use Rattle.fallible_iterator.specs.Lists.{mapped_while, items, results, counted, nth_of, folded, collected, CollectedAs, Lists, mapped, filtered, taken, numbered, skipped_while, taken_while, zipped, scanned, chained, inspected, found, stepped, filter_mapped};
+ghost use Rattle.fallible_iterator.specs.Lists.{mapped_while, items, results, counted, folded, collected, CollectedAs, Lists, mapped, filtered, taken, numbered, skipped_while, taken_while, zipped, chained, inspected, found, stepped, filter_mapped};
 
 use fallible_iterator::{FallibleIterator, Fault, convert, empty, once, once_err};
 use std::alloc::Global;
@@ -22,16 +22,6 @@ pub fn above_100_of_ten(readings: Vec<Result<u32, u8>>) -> Result<usize, u8>
     convert(readings.into_iter())
         .take(10)
         .filter(|reading| Ok(*reading > 100))
-        .count()
-}
-
-/// How many readings there are, if none is above 100, and otherwise the first failure: the code 7 for a reading above 100.
-pub fn all_up_to_100(readings: Vec<Result<u32, u8>>) -> Result<usize, u8>
-    ensures { result ≡ counted
-        (mapped (λ x. if nat_lt 100 x then Err 7 else Ok x) (results readings.items)) }
-{
-    convert(readings.into_iter())
-        .map(|reading| if reading > 100 { Err(7) } else { Ok(reading) })
         .count()
 }
 
@@ -86,15 +76,6 @@ pub fn checked_sum(readings: Vec<Result<u32, u8>>) -> Result<u64, u8>
         .fold(0, |sum: u64, x: u64| sum.checked_add(x).ok_or(7))
 }
 
-/// The fourth of the readings above 100, or the failure or the `Ok(None)` that comes first.
-pub fn fourth_above_100(readings: Vec<Result<u32, u8>>) -> Result<Option<u32>, u8>
-    ensures { result ≡ nth_of 3 (filtered (λ x. Ok (nat_lt 100 x)) (results readings.items)) }
-{
-    convert(readings.into_iter())
-        .filter(|reading| Ok(*reading > 100))
-        .nth(3)
-}
-
 /// The first reading above 100, or the failure that comes before: the code 7 if there is no such reading.
 pub fn required_above_100(readings: Vec<Result<u32, u8>>) -> Result<Option<u32>, u8>
     ensures { result ≡ found (λ x. Ok (nat_lt 100 x))
@@ -131,33 +112,6 @@ pub fn excesses(alloc: Global, readings: Vec<Result<u32, u8>>) -> Result<Vec<u32
         .collect(alloc)
 }
 
-/// The readings above 100, unless an allocation fails.
-pub fn collected_above_100(
-    alloc: Global,
-    readings: Vec<Result<u32, u8>>,
-) -> Result<Vec<u32>, Fault<u8>>
-    ensures { CollectedAs (λ xs v. v.items ≡ xs)
-        (filtered (λ x. Ok (nat_lt 100 x)) (results readings.items)) result }
-{
-    convert(readings.into_iter())
-        .filter(|reading| Ok(*reading > 100))
-        .collect(alloc)
-}
-
-/// The running sums of the readings, modulo 2 ^ 64, unless an allocation fails.
-pub fn running_sums(alloc: Global, readings: Vec<Result<u32, u8>>) -> Result<Vec<u64>, Fault<u8>>
-    ensures { CollectedAs (λ xs v. v.items ≡ xs)
-        (scanned (λ s x. (Ok (Some ((s + x) % 2 ^ 64)), (s + x) % 2 ^ 64)) 0
-        (results readings.items)) result }
-{
-    convert(readings.into_iter())
-        .scan(0, |sum: &mut u64, reading: u32| {
-            *sum = sum.wrapping_add(u64::from(reading));
-            Ok(Some(*sum))
-        })
-        .collect(alloc)
-}
-
 /// The halves of the readings up to the first one that is 0.
 pub fn halves(alloc: Global, readings: Vec<Result<u32, u8>>) -> Result<Vec<u32>, Fault<u8>>
     ensures { CollectedAs (λ xs v. v.items ≡ xs)
@@ -168,21 +122,6 @@ pub fn halves(alloc: Global, readings: Vec<Result<u32, u8>>) -> Result<Vec<u32>,
     convert(readings.into_iter())
         .map_while(|reading: u32| Ok(if reading > 0 { Some(reading / 2) } else { None }))
         .collect(alloc)
-}
-
-/// The sum of the products of two columns, position by position, modulo 2 ^ 64.
-pub fn products(left: &[u32], right: &[u32]) -> Result<u64, u8>
-    ensures { result ≡ folded (λ e. e) (λ s p. Ok ((s + p.0 * p.1) % 2 ^ 64)) 0
-        (zipped (items left.now) (items right.now)) }
-{
-    convert(left.iter().copied().map(Ok::<u32, u8>))
-        .zip(convert(right.iter().copied().map(Ok)))
-        .fold(
-            0,
-            |sum: u64, pair: (u32, u32)| Ok(sum.wrapping_add(
-                u64::from(pair.0) * u64::from(pair.1),
-            )),
-        )
 }
 
 /// At how many positions two columns have texts of the same length, or the first failure of the left. The texts of each column are borrowed for a time of its own.

@@ -1,22 +1,12 @@
 //! What searches find, and which item is the best.
-ghost use Rattle.std.specs.Prelude.{◌≡◌, ◌+◌, ◌*◌, ◌%◌, ◌^◌, ℕ, Result, Ok, Err, IfOk, Option, length, map, nat_lt, ◌/◌, if◌then◌else◌, Some, None};
+ghost use Rattle.std.specs.Prelude.{◌≡◌, ◌+◌, ◌*◌, ◌%◌, ◌^◌, ℕ, Result, Ok, Err, IfOk, Option, map, nat_lt, ◌/◌, if◌then◌else◌, Some, None};
 ghost use Rattle.std.specs.Ordering.{nat_cmp};
 ghost use Rattle.fallible_iterator.specs.Fault.{Fault};
-ghost use Rattle.fallible_iterator.specs.Lists.{results, all_of, any_of, collected, last_of, on_value, reduced, greatest, least, PartitionedAs, UnzippedAs, mapped, filtered, numbered, skipped, taken, find_mapped, each_done, best_by, best_by_key};
+ghost use Rattle.fallible_iterator.specs.Lists.{results, any_of, collected, last_of, on_value, reduced, greatest, least, PartitionedAs, UnzippedAs, mapped, filtered, numbered, skipped, taken, find_mapped, each_done, best_by, best_by_key};
 ghost use Rattle.std.specs.declared.cmp.Ordering.TheVariants.{Greater, Less};
 
 use fallible_iterator::{FallibleIterator, Fault, convert};
 use std::alloc::Global;
-
-/// Whether all readings that aren't 0 are above 100, or the failure that comes first.
-pub fn all_above_100(readings: Vec<Result<u32, u8>>) -> Result<bool, u8>
-    ensures { result ≡ all_of (λ x. Ok (nat_lt 100 x))
-        (filtered (λ x. Ok (nat_lt 0 x)) (results readings.items)) }
-{
-    convert(readings.into_iter())
-        .filter(|reading| Ok(*reading > 0))
-        .all(|reading| Ok(reading > 100))
-}
 
 /// Whether a reading after the first is above 100, or the failure that comes first.
 pub fn any_above_100(readings: Vec<Result<u32, u8>>) -> Result<bool, u8>
@@ -144,24 +134,6 @@ pub fn two_columns(
         (numbered 0 (results readings.items)) result }
 {
     convert(readings.into_iter()).enumerate().unzip(alloc)
-}
-
-/// The readings above 100, and how many they are, or the first failure, unless an allocation fails.
-pub fn above_100_and_count(
-    alloc: Global,
-    readings: Vec<Result<u32, u8>>,
-) -> Result<(Vec<u32>, usize), Fault<u8>>
-    ensures items { IfOk result (λ both. collected
-        (filtered (λ x. Ok (nat_lt 100 x)) (results readings.items)) ≡ Ok both.0.items) }
-    ensures count { IfOk result (λ both. both.1 ≡ length both.0.items) }
-    ensures failure { (e : ℕ) → result ≡ Err (Fault.Source e) → collected
-        (filtered (λ x. Ok (nat_lt 100 x)) (results readings.items)) ≡ Err e }
-{
-    let above: Vec<u32> = convert(readings.into_iter())
-        .filter(|reading| Ok(*reading > 100))
-        .collect(alloc)?;
-    let count = above.len();
-    Ok((above, count))
 }
 
 /// The readings and their places, as two columns, or the first failure, unless an allocation fails.

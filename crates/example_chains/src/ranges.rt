@@ -1,11 +1,11 @@
 //! Ranges, drained.
-ghost use Rattle.std.specs.Prelude.{◌≡◌, ◌+◌, ◌%◌, ◌^◌, Ok, IfOk, nat_lt, eqb};
+ghost use Rattle.std.specs.Prelude.{◌≡◌, ◌+◌, ◌%◌, ◌^◌, Ok, eqb};
 ghost use Rattle.std.specs.List.{range_with_len};
-ghost use Rattle.fallible_iterator.specs.Lists.{items, results, counted, folded, CollectedAs, taken, mapped, filtered, flattened, found, reversed};
+ghost use Rattle.fallible_iterator.specs.Lists.{items, results, folded, CollectedAs, taken, mapped, flattened, found, reversed};
 ghost use Rattle.example_chains.specs.Runs.{below, numbers};
 
 use fallible_iterator::{FallibleIterator, Fault, IteratorExt, convert};
-use std::alloc::{AllocError, Global};
+use std::alloc::Global;
 use std::convert::Infallible;
 
 /// The sum of the numbers below `end`, modulo 2 ^ 64.
@@ -27,27 +27,6 @@ pub fn greatest_with_three(end: u32) -> Result<Option<u32>, Infallible>
         .into_fallible()
         .rev()
         .find(|number: &u32| Ok(*number % 10 == 3))
-}
-
-/// How many of the numbers below `end` are above 100, counted over a clone, and then their sum, modulo 2 ^ 64, of the original; or an allocation failure for the clone.
-pub fn count_and_sum(
-    end: u32,
-) -> Result<(Result<usize, Infallible>, Result<u64, Infallible>), AllocError>
-    ensures { IfOk result
-        (λ both. (both.0 ≡ counted
-        (filtered (λ x. Ok (nat_lt 100 x)) (items (range_with_len 0 end))))
-        × (both.1 ≡ folded (λ e. e) (λ s x. Ok ((s + x) % 2 ^ 64)) 0
-        (filtered (λ x. Ok (nat_lt 100 x)) (items (range_with_len 0 end))))) }
-{
-    let numbers = (0..end)
-        .into_fallible()
-        .filter(|number: &u32| Ok(*number > 100));
-    let count = numbers.clone()?.count();
-    let sum = numbers.fold(
-        0,
-        |sum: u64, number: u32| Ok(sum.wrapping_add(u64::from(number))),
-    );
-    Ok((count, sum))
 }
 
 /// The numbers below each bound, one run after the other, of which at most 1000 come, unless an allocation fails.

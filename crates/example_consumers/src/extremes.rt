@@ -1,5 +1,5 @@
 //! Callers of what is in `fallible_itertools` about extremes, counts, comparisons and the second end, with what they compute.
-ghost use Rattle.std.specs.Prelude.{◌≡◌, ◌+◌, ◌-◌, ◌^◌, ◌%◌, if◌then◌else◌, length, Ok, nat_eq, nat_lt, codes, List, Result, Option, None, Err, ℕ, is_some};
+ghost use Rattle.std.specs.Prelude.{◌≡◌, ◌+◌, ◌-◌, ◌^◌, ◌%◌, if◌then◌else◌, Ok, nat_eq, nat_lt, codes, List, Result, Option, None, Err, ℕ, is_some};
 ghost use Rattle.std.specs.Ordering.{nat_cmp};
 ghost use Rattle.fallible_iterator.specs.Clauses.{OverList};
 ghost use Rattle.fallible_iterator.specs.Lists.{CollectedAs, filtered, found, mapped, nth_of, results, reversed, taken, on_value, Lists};
@@ -9,7 +9,7 @@ ghost use Rattle.fallible_itertools.specs.FoldByKey.{FoldedByKeyAs};
 ghost use Rattle.fallible_itertools.specs.GroupMap.{IsGroupMapOf};
 ghost use Rattle.fallible_itertools.specs.Keyed.{keyed};
 ghost use Rattle.fallible_itertools.specs.MinMax.{minmaxed, least_and_greatest};
-ghost use Rattle.fallible_itertools.specs.MinMaxBy.{minmaxed_by, minmaxed_by_key};
+ghost use Rattle.fallible_itertools.specs.MinMaxBy.{minmaxed_by_key};
 ghost use Rattle.fallible_itertools.specs.PartitionMap.{MadeOfEithers};
 ghost use Rattle.fallible_itertools.specs.PositionBest.{position_greatest, position_least};
 ghost use Rattle.fallible_itertools.specs.Sorted.{IsSortedByKeyOf, IsSortedByTest, IsSortedOf};
@@ -29,16 +29,6 @@ use fallible_itertools::{
 use std::alloc::Global;
 use std::collections::HashMap;
 
-/// The least and the greatest reading above 100, or the first failure.
-pub fn span_above_100(readings: Vec<Result<u32, u8>>) -> Result<MinMaxResult<u32>, u8>
-    ensures { result ≡ minmaxed nat_cmp (filtered (λ x. Ok (nat_lt 100 x))
-        (results readings.items)) }
-{
-    convert(readings.into_iter())
-        .filter(|reading| Ok(*reading > 100))
-        .minmax()
-}
-
 /// The least and the greatest reading, as `minmax` finds them, by a closure that compares two.
 pub fn span_by_order(readings: Vec<Result<u32, u8>>) -> Result<MinMaxResult<u32>, u8>
     ensures { result ≡ minmaxed nat_cmp (results readings.items) }
@@ -53,28 +43,12 @@ pub fn span_of_last_digits(readings: Vec<Result<u32, u8>>) -> Result<MinMaxResul
     convert(readings.into_iter()).minmax_by_key(|reading: &u32| Ok(*reading % 10))
 }
 
-/// The same, by a closure that compares the last digits of two readings.
-pub fn span_by_last_digits(readings: Vec<Result<u32, u8>>) -> Result<MinMaxResult<u32>, u8>
-    ensures { result ≡ minmaxed_by (λ x y. Ok (nat_cmp (x % 10) (y % 10))) (results readings.items) }
-{
-    convert(readings.into_iter()).minmax_by(|x: &u32, y: &u32| Ok((*x % 10).cmp(&(*y % 10))))
-}
-
 /// The least and the greatest reading, which are one and the same if there is one; `None` if there is none. Or the first failure.
 pub fn bounds_of(readings: Vec<Result<u32, u8>>) -> Result<Option<(u32, u32)>, u8>
     ensures { result ≡ on_value (minmaxed nat_cmp (results readings.items))
         (λ found. Ok (least_and_greatest found)) }
 {
     Ok(convert(readings.into_iter()).minmax()?.into_option())
-}
-
-/// The first of the shortest rows and the last of the longest, or the first failure.
-pub fn shortest_and_longest<'a>(
-    rows: Vec<Result<&'a [u8], u8>>,
-) -> Result<MinMaxResult<&'a [u8]>, u8>
-    ensures { result ≡ minmaxed_by_key nat_cmp (λ x. Ok (length x.now)) (results rows.entry.items) }
-{
-    convert(rows.into_iter()).minmax_by_key(|row: &&[u8]| Ok(row.len()))
 }
 
 /// How many readings come before the greatest, of equal ones before the last, or the first failure.

@@ -1,15 +1,14 @@
 //! Folds that may stop early, items and keys that come in order, and items that are equal.
-ghost use Rattle.std.specs.Prelude.{◌≡◌, true, nat_eq, ◌+◌, ◌%◌, ◌^◌, ℕ, eqb, List, Result, Ok, Err, if◌then◌else◌, nat_lt};
+ghost use Rattle.std.specs.Prelude.{◌≡◌, nat_eq, ◌+◌, ◌%◌, ◌^◌, ℕ, eqb, List, Result, Ok, Err, if◌then◌else◌, nat_lt};
 ghost use Rattle.std.specs.Ordering.{nat_cmp};
 ghost use Rattle.fallible_iterator.specs.Comparing.{by_cmp};
 ghost use Rattle.fallible_iterator.specs.Lists.{Lists, filtered, last_of, nth_of, results, on_value};
 ghost use Rattle.fallible_itertools.specs.AllUnique.{AllUniqueAs};
-ghost use Rattle.fallible_itertools.specs.Equal.{contained, equal_to_first, equal_value, rest_contained};
+ghost use Rattle.fallible_itertools.specs.Equal.{contained, equal_to_first, equal_value};
 ghost use Rattle.fallible_itertools.specs.FindOrLast.{found_or_first, found_or_last};
 ghost use Rattle.fallible_itertools.specs.FindPosition.{position_found};
 ghost use Rattle.fallible_itertools.specs.Positions.{positions_where};
-ghost use Rattle.fallible_itertools.specs.IsSortedBy.{in_order_by};
-ghost use Rattle.fallible_itertools.specs.IsSorted.{in_order, in_order_by_key};
+ghost use Rattle.fallible_itertools.specs.IsSorted.{in_order, in_order_by, in_order_by_key};
 ghost use Rattle.fallible_itertools.specs.FoldWhile.{rest_while, folded_while, value_of, is_done_at};
 ghost use Rattle.fallible_itertools.specs.declared.fold_while.FoldWhile.TheVariants.{Continue, Done};
 
@@ -135,19 +134,6 @@ pub fn has_zero(readings: Vec<Result<u32, u8>>) -> Result<bool, u8>
 {
     let mut it = convert(readings.into_iter());
     it.contains(&0)
-}
-
-/// The item after the first 0, or the first failure; `None` if there is no 0.
-pub fn after_zero(readings: Vec<Result<u32, u8>>) -> Result<Option<u32>, u8>
-    ensures { contained nat_eq 0 (results readings.items) ≡ Ok true
-        → result ≡ nth_of 0 (rest_contained nat_eq 0 (results readings.items)) }
-{
-    let mut it = convert(readings.into_iter());
-    if it.contains(&0)? {
-        it.draw()
-    } else {
-        Ok(None)
-    }
 }
 
 /// Whether each reading is above the next one, or the failure that comes before two of which it isn't.

@@ -1,24 +1,14 @@
 //! Sums and products.
 ghost use lib.Ieee as Ieee;
 ghost use lib.Ieee.{binary64};
-ghost use Rattle.std.specs.Prelude.{from_bits, ◌≡◌, ℕ, ◌^◌, ℤ, pos, List, Result, Ok, Err, Some, None, nat_lt};
+ghost use Rattle.std.specs.Prelude.{from_bits, ◌≡◌, ℕ, ◌^◌, ℤ, pos, List, Result, Ok, Err, Some, None};
 ghost use Rattle.fallible_iterator.specs.Clauses.{OverList};
-ghost use Rattle.fallible_iterator.specs.Lists.{Lists, filtered, results, taken};
+ghost use Rattle.fallible_iterator.specs.Lists.{Lists, results, taken};
 ghost use Rattle.fallible_itertools.specs.CheckedSum.{product_within, sum_below, totalled};
 ghost use Rattle.fallible_itertools.specs.Total.{added};
 
 use fallible_iterator::{FallibleIterator, convert};
 use fallible_itertools::FallibleItertools;
-
-/// The sum of the readings above 100, or the first failure; `None` if it is 2 ^ 32 or more.
-pub fn sum_above_100(readings: Vec<Result<u32, u8>>) -> Result<Option<u32>, u8>
-    ensures { result ≡ totalled (sum_below (2 ^ 32)) 0
-        (filtered (λ x. Ok (nat_lt 100 x)) (results readings.items)) }
-{
-    convert(readings.into_iter())
-        .filter(|reading| Ok(*reading > 100))
-        .checked_sum()
-}
 
 /// The product of the first three items, or the first failure among them; `None` if it overflows.
 pub fn product_of_three<I: FallibleIterator<Item = i64>>(it: I) -> Result<Option<i64>, I::Error>

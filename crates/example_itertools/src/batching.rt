@@ -145,17 +145,6 @@ pub fn repeated_readings(
         .collect(alloc)
 }
 
-/// How many readings equal exactly one before them, or the first failure, or an allocation failure.
-pub fn number_of_repeated_readings(
-    alloc: Global,
-    readings: Vec<Result<u32, NoBatch>>,
-) -> Result<usize, NoBatch>
-    ensures { SameOrRefused (λ refused why. why ≡ NoBatch.Memory)
-        (counted (duplicates_of nat_eq (results readings.items))) result }
-{
-    convert(readings.into_iter()).duplicates(alloc).count()
-}
-
 /// The first reading of each ten, or the first failure, up to an allocation failure.
 pub fn first_readings_of_tens(
     alloc: Global,
@@ -168,30 +157,4 @@ pub fn first_readings_of_tens(
     convert(readings.into_iter())
         .unique_by(alloc, |reading| Ok(*reading / 10))
         .collect(alloc)
-}
-
-/// How many tens the readings are in, or the first failure, or an allocation failure.
-pub fn tens_of_readings(
-    alloc: Global,
-    readings: Vec<Result<u32, NoBatch>>,
-) -> Result<usize, NoBatch>
-    ensures { SameOrRefused (λ refused why. why ≡ NoBatch.Memory)
-        (counted (unique_by_key nat_eq (λ x. Ok (x / 10)) (results readings.items))) result }
-{
-    convert(readings.into_iter())
-        .unique_by(alloc, |reading| Ok(*reading / 10))
-        .count()
-}
-
-/// How many lengths the words have, or the first failure, or an allocation failure.
-pub fn lengths_of_words<'a>(
-    alloc: Global,
-    words: Vec<Result<&'a [u8], NoBatch>>,
-) -> Result<usize, NoBatch>
-    ensures { SameOrRefused (λ refused why. why ≡ NoBatch.Memory)
-        (counted (unique_by_key nat_eq (λ word. Ok (length word.now)) (results words.entry.items))) result }
-{
-    convert(words.into_iter())
-        .unique_by(alloc, |word| Ok(word.len()))
-        .count()
 }

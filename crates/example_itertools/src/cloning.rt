@@ -1,7 +1,7 @@
 //! Callers of what clones, over texts, whose clones may fail: each states the value up to an allocation failure, by one term.
 ghost use Rattle.std.specs.Prelude.{◌≡◌, ◌∷◌, List, Result};
 ghost use Rattle.std.specs.String.{string_bytes};
-ghost use Rattle.fallible_iterator.specs.Lists.{cycled, items, pointed_to, repeated, results};
+ghost use Rattle.fallible_iterator.specs.Lists.{cycled, items, pointed_to, results};
 ghost use Rattle.fallible_iterator.specs.Making.{CollectedMade};
 ghost use Rattle.fallible_iterator.specs.Refusing.{ListsUntilRefused};
 ghost use Rattle.fallible_itertools.specs.Intersperse.{interspersed};
@@ -12,7 +12,7 @@ ghost use Rattle.std.specs.declared.alloc.Global.{Global};
 ghost use Rattle.std.specs.declared.string.String.{String};
 
 use fallible_iterator::laws::law_cycle_until_refused;
-use fallible_iterator::{FallibleIterator, Fault, convert, repeat};
+use fallible_iterator::{FallibleIterator, Fault, convert};
 use fallible_itertools::FallibleItertools;
 use std::alloc::{AllocError, Global};
 
@@ -80,15 +80,6 @@ pub fn copies_of<'a>(
         (pointed_to (results words.entry.items)) result }
 {
     gathered(alloc, convert(words.into_iter()).cloned())
-}
-
-/// The word n times, up to an allocation failure.
-pub fn repeated_word(alloc: Global, word: String, n: usize) -> Result<Vec<String>, Fault<NoWord>>
-    ensures { CollectedMade (λ word copy. string_bytes copy ≡ string_bytes word)
-        (λ refused why. why ≡ NoWord.Memory) (λ copies v. v.items ≡ copies) (repeated n word)
-        result }
-{
-    gathered(alloc, repeat::<String, NoWord>(word).take(n))
 }
 
 /// The first n words of rounds of an iterator that starts anew at each `Ok(None)`, up to an allocation failure.

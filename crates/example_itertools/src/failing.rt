@@ -55,13 +55,6 @@ pub fn sum_good(rows: Vec<Result<u32, u8>>) -> Result<(u64, u32), TooManyBad>
         })
 }
 
-/// How many rows are good.
-pub fn count_good(rows: Vec<Result<u32, u8>>) -> Result<usize, u8>
-    ensures { result ≡ counted (recovered (λ _. Ok None) (results rows.items)) }
-{
-    convert(rows.into_iter()).or_else(|_| Ok(None)).count()
-}
-
 /// How many items a source has, its failures left out. Items and failures together are few enough for a `usize`.
 pub fn count_good_of<I: FallibleIterator>(it: I) -> Result<usize, u8>
 where
@@ -74,22 +67,6 @@ where
         → result ≡ counted (recovered (λ _. Ok None) l) }
 {
     it.or_else(|_: I::Error| Ok(None)).count()
-}
-
-/// The sum of the good rows, modulo 2 ^ 64. It stops at the hundredth bad one.
-pub fn sum_up_to_bad<I: FallibleIterator<Item = u32>>(rows: I) -> Result<u64, u8>
-where
-    I::Error: Drop,
-    requires can_next { I.contract.can_next rows }
-    requires finite { I.contract.is_finite rows }
-    ensures { (l : List (Result ℕ I.Error)) → Lists I.contract.steps rows l
-        → result ≡ folded (λ e. e) (λ s x. Ok ((s + x) % 2 ^ 64)) 0
-        (recovered (λ _. Ok None) (stopped_after 100 l)) }
-{
-    rows.stop_after(100).or_else(|_: I::Error| Ok(None)).fold(
-        0,
-        |sum: u64, row: u32| Ok(sum.wrapping_add(u64::from(row))),
-    )
 }
 
 /// The sum of the good ones among the first thousand rows, modulo 2 ^ 64. It stops at the hundredth bad one. The rows may come of a reader, which has no bound.
@@ -209,15 +186,6 @@ pub fn count_rows(rows: Vec<Result<u32, u8>>) -> Result<usize, NoCount>
     ensures { result ≡ counted (failures_mapped (λ code. NoCount.Row code) (results rows.items)) }
 {
     convert(rows.into_iter()).err_into().count()
-}
-
-/// How many rows there are, or the first failure, which `noted` holds then.
-pub fn count_noting(rows: Vec<Result<u32, u8>>, noted: &mut Option<u8>) -> Result<usize, u8>
-    ensures { result ≡ counted (results rows.items) }
-{
-    convert(rows.into_iter())
-        .inspect_err(|code| *noted = Some(*code))
-        .count()
 }
 
 /// How many items there are, or the first failure, which `log` is called on.

@@ -1,7 +1,7 @@
 //! Callers of the adapters that buffer: each states what it computes, and the contracts of the calls prove it.
-ghost use Rattle.std.specs.Prelude.{◌≡◌, ℕ, ◌+◌, ◌-◌, ◌%◌, ◌/◌, ◌^◌, List, Option, Result, Some, Ok, Err, if◌then◌else◌, nat_eq, nat_lt};
+ghost use Rattle.std.specs.Prelude.{◌≡◌, ℕ, ◌+◌, ◌-◌, ◌%◌, ◌/◌, ◌^◌, List, Option, Result, Ok, Err, if◌then◌else◌, nat_eq, nat_lt};
 ghost use Rattle.fallible_iterator.specs.Contract.{AtMost};
-ghost use Rattle.fallible_iterator.specs.Lists.{Lists, counted, filtered, folded, nth_of, rest_first, results, taken};
+ghost use Rattle.fallible_iterator.specs.Lists.{Lists, counted, filtered, folded, nth_of, results};
 ghost use Rattle.fallible_itertools.specs.Coalesce.{coalesced};
 ghost use Rattle.fallible_itertools.specs.Dedup.{deduped};
 ghost use Rattle.fallible_itertools.specs.DedupBy.{deduped_by};
@@ -16,25 +16,6 @@ use fallible_iterator::{FallibleIterator, convert};
 use fallible_itertools::{FallibleItertools, Position};
 use std::alloc::AllocError;
 
-/// How many readings differ from the one before them, the first one counted, or the first failure.
-pub fn changes(readings: Vec<Result<u32, u8>>) -> Result<usize, u8>
-    ensures { result ≡ counted (deduped nat_eq (results readings.items)) }
-{
-    convert(readings.into_iter()).dedup().count()
-}
-
-/// How many of the first ten readings above 100 differ from the one before them, the first one counted, or the first failure.
-pub fn changes_above_100(readings: Vec<Result<u32, u8>>) -> Result<usize, u8>
-    ensures { result ≡ counted (deduped nat_eq
-        (taken 10 (filtered (λ x. Ok (nat_lt 100 x)) (results readings.items)))) }
-{
-    convert(readings.into_iter())
-        .filter(|reading| Ok(*reading > 100))
-        .take(10)
-        .dedup()
-        .count()
-}
-
 /// How many items differ from the one before them, modulo 2 ^ 64, over any source that lists a list, also one that goes on after its `Ok(None)`.
 pub fn changes_of<I: FallibleIterator<Item = u32>>(it: I) -> Result<u64, I::Error>
 where
@@ -46,21 +27,6 @@ where
 {
     it.dedup()
         .fold(0, |n: u64, _reading: u32| Ok(n.wrapping_add(1)))
-}
-
-/// How many changes come after the first; if a failure comes first, those after it.
-pub fn changes_after_first(readings: Vec<Result<u32, u8>>) -> Result<usize, u8>
-    ensures after_item { (x : ℕ) → nth_of 0 (deduped nat_eq (results readings.items)) ≡ Ok (Some x)
-        → result ≡ counted (rest_first (deduped nat_eq (results readings.items))) }
-    ensures after_failure { (e : ℕ) → nth_of 0 (deduped nat_eq (results readings.items)) ≡ Err e
-        → result ≡ counted (rest_first (deduped nat_eq (results readings.items))) }
-{
-    let mut it = convert(readings.into_iter()).dedup();
-    match it.draw() {
-        Ok(Some(_)) => it.count(),
-        Ok(None) => Ok(0),
-        Err(_) => it.count(),
-    }
 }
 
 /// The sum of the first of each ten that readings stay in, modulo 2 ^ 64, or the first failure.
@@ -92,17 +58,6 @@ pub fn first_run(readings: Vec<Result<u32, u8>>) -> Result<Option<(usize, u32)>,
 {
     let mut it = convert(readings.into_iter()).dedup_with_count();
     it.draw()
-}
-
-/// How many readings come in runs of two equal ones or more, each run once, or the first failure.
-pub fn repeated_runs(readings: Vec<Result<u32, u8>>) -> Result<usize, u8>
-    ensures { result ≡ counted (filtered (λ run. Ok (nat_lt 1 run.0))
-        (deduped_with_count nat_eq (results readings.items))) }
-{
-    convert(readings.into_iter())
-        .dedup_with_count()
-        .filter(|run| Ok(run.0 > 1))
-        .count()
 }
 
 /// The first reading with the number of readings in the same ten as it that follow it at once, itself counted, or the first failure.

@@ -14,17 +14,6 @@ pub fn separated_by_zeros(readings: Vec<Result<u32, AllocError>>) -> Result<usiz
     convert(readings.into_iter()).intersperse(0).count()
 }
 
-/// The number whose digits are these with a nine between each two adjacent ones, modulo 2 ^ 64, or the first failure.
-pub fn separated_by_nines(digits: Vec<Result<u32, AllocError>>) -> Result<u64, AllocError>
-    ensures { result ≡ folded (λ e. e) (λ n d. Ok ((n * 10 % 2 ^ 64 + d) % 2 ^ 64)) 0
-        (interspersed 9 (results digits.items)) }
-{
-    convert(digits.into_iter()).intersperse(9).fold(
-        0,
-        |number: u64, digit: u32| Ok(number.wrapping_mul(10).wrapping_add(u64::from(digit))),
-    )
-}
-
 /// How many readings there are with a zero between each two adjacent ones, which a closure returns, or the first failure.
 pub fn separated_by_returned_zeros(
     readings: Vec<Result<u32, AllocError>>,

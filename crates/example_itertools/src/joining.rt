@@ -8,7 +8,6 @@ ghost use Rattle.fallible_itertools.specs.DedupBy.{deduped_by};
 ghost use Rattle.fallible_itertools.specs.Interleave.{interleaved};
 ghost use Rattle.fallible_itertools.specs.Merge.{merged_in_order};
 ghost use Rattle.fallible_itertools.specs.MergeBy.{merged};
-ghost use Rattle.fallible_itertools.specs.MergeJoinBy.{merge_joined};
 ghost use Rattle.fallible_itertools.specs.PadUsing.{padded};
 ghost use Rattle.fallible_itertools.specs.ZipEq.{zipped_equal};
 ghost use Rattle.fallible_itertools.specs.ZipLongest.{zipped_longest};
@@ -102,16 +101,6 @@ pub fn in_turn_for_good<I: FallibleIterator, J: FallibleIterator<Item = I::Item,
         (interleaved a b) }
 {
     left.interleave(right)
-}
-
-/// How many rows the outer join of two sorted columns of keys has, or the first failure.
-pub fn rows_joined(left: Vec<Result<u32, u8>>, right: Vec<Result<u32, u8>>) -> Result<usize, u8>
-    ensures { result ≡ counted
-        (merge_joined (λ x y. Ok (nat_cmp x y)) (results left.items) (results right.items)) }
-{
-    convert(left.into_iter())
-        .merge_join_by(convert(right.into_iter()), |x, y| Ok(x.cmp(y)))
-        .count()
 }
 
 /// Whether two columns have the same last digits, position by position, or the first failure.

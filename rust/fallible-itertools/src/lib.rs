@@ -39,7 +39,6 @@ mod fold_while;
 #[cfg(feature = "std")]
 mod group_map;
 mod is_sorted;
-mod is_sorted_by;
 #[cfg(feature = "alloc")]
 mod join;
 #[cfg(feature = "alloc")]
