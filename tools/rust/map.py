@@ -94,8 +94,8 @@ ITERTOOLS = [
     (r"parted\.rs", r"^/// Returns the collection, or (?:.*\n)*?\}\n", "", 1),
     (r"parted\.rs", r"^use fallible_iterator::\{FallibleIterator, Fault\};", "use fallible_iterator::FallibleIterator;", 1),
     (r"traits\.rs", r"::parted::\{Parted, without_fault\};", "::parted::Parted;", 1),
-    (r"until_failure\.rs", r"^/// Returns the collection beside (?:.*\n)*?\}\n", "", 1),
-    (r"traits\.rs", r"::until_failure::\{PushTurn, with_failure\};", "::until_failure::PushTurn;", 1),
+    (r"traits\.rs", r"^use crate::until_failure::with_failure;\n", "", 1),
+    (r"lib\.rs", r"^pub mod until_failure;\n", "", 1),
     (r"fold_by_key\.rs", r"\bB: Copy\b", "B: Clone", 1),
     (r"fold_by_key\.rs", r"\(HashMap<K, B>, F\)(?=,$)", "(HashMap<K, B>, F, Option<B>)", 1),
     (r"fold_by_key\.rs", r" so far and the closure\.", " so far, the closure, and what may stand in the place of a value while the closure has that.", 1),
@@ -153,8 +153,8 @@ ITERTOOLS = [
     (r"lib\.rs", r"^pub (mod (?!traits;)\w+;)", r"\1", 26),
     (r"lib\.rs", r"^pub mod traits;", r"#[doc(hidden)]\n\g<0>", 1),
     (r"tail\.rs", r"^use std::collections::VecDeque;", "use alloc::collections::VecDeque;", 1),
-    (r"(?:all_unique|counts|group_map|join|k_smallest|partition_map|tail|until_failure)\.rs", r"\A(//.*\n\n)",
-     r"\1use fallible_iterator::memory::AllocError;\n", 8),
+    (r"(?:all_unique|counts|group_map|join|k_smallest|partition_map|tail)\.rs", r"\A(//.*\n\n)",
+     r"\1use fallible_iterator::memory::AllocError;\n", 7),
 ]
 
 # Collections of std that are made by Rust's own `collect`.
@@ -166,6 +166,6 @@ def to_rust(crate, files):
     if crate == "fallible-iterator":
         drop_files("map", files, LEFT_OUT)
     else:
-        drop_files("map", files, ["total.rs"])
+        drop_files("map", files, ["total.rs", "until_failure.rs"])
     apply("map", files, STD)
     apply("map", files, ITERATOR if crate == "fallible-iterator" else ITERTOOLS)

@@ -116,11 +116,11 @@ use crate::minmax_by::{find_both_by, find_both_by_key};
 use crate::parted::{Parted, without_fault};
 use crate::partition_map::Either;
 use crate::position_best::{first_is_less, place_alone};
-use crate::until_failure::{PushTurn, with_failure};
+use crate::until_failure::with_failure;
 use crate::{k_smallest, sorted, sorted_unstable, tail};
 use fallible_iterator::extending::{
-    FindTest, FindTurn, ForEachTurn, PositionTurn, ReadEq, Reading, answer_or, answer_or_none,
-    found, ordered,
+    CollectTurn, FindTest, FindTurn, ForEachTurn, PositionTurn, ReadEq, Reading, answer_or,
+    answer_or_none, found, ordered,
 };
 use fallible_iterator::{Collect, FallibleIterator, Fault, IntoFallibleIterator};
 use fallible_itertools_adapters::{
@@ -1951,7 +1951,7 @@ pub trait FallibleItertools: FallibleIterator {
             Ok(made) => made,
             Err(refused) => return Err(refused),
         };
-        let answer = self.drive(&mut made, &PushTurn);
+        let answer = self.drive(&mut made, &CollectTurn);
         with_failure(answer, made)
     }
 

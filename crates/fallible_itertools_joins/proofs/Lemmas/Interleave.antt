@@ -42,6 +42,7 @@ module _ {A E : Type 0} where
   list_is_append_of_empty [] = refl
   list_is_append_of_empty (x ∷ l) = ap {B = List (Result A E)} (λ k. x ∷ k) (list_is_append_of_empty l)
 
+  -- Law: `interleaved` takes both lists two by two, the first list's before the second's, and then the rest of the longer one.
   pub interleaved_is_zip_before_dropped : (a b : List (Result A E)) → interleaved a b ≡ flat_map (λ p. p.0 ∷ p.1 ∷ []) (zip a b) ++ (drop (length b) a ++ drop (length a) b)
   unfolding interleaved
   interleaved_is_zip_before_dropped [] b = ap {B = List (Result A E)} (λ l. l ++ b) (sym (drop_of_empty_is_empty (length b)))
@@ -56,6 +57,7 @@ module _ {A E : Type 0} where
   interleaved_all_of_second [] = interleaved_nil
   interleaved_all_of_second (y ∷ b) = of_second y (interleaved_all_of_second b)
 
+  -- `interleaved` has the answers of both lists, each list's in their order.
   pub interleaved_of_both : (a b : List (Result A E)) → Interleaved a b (interleaved a b)
   unfolding interleaved
   interleaved_of_both [] b = interleaved_all_of_second b

@@ -198,13 +198,16 @@ module _ {A E : Type 0} (h : ℕ → A) where
   failures_from_index (Ok x ∷ l) i k = failures_from_index l i k
   failures_from_index (Err e ∷ l) i k = ap (λ t. e ∷ t) (failures_from_index l i k)
 
+  -- Law: The items of `padded` are those of the list, in order, and then what the closure makes of the indices up to n, if it never fails.
   pub items_of_padded : (n : ℕ) (l : List (Result A E)) → items_listed (padded n (λ i. Ok (h i)) l) ≡ items_listed l ++ from_index h (length (items_listed l)) (n - length (items_listed l))
   unfolding padded
   items_of_padded n l = items_from_index l _ _
 
+  -- `padded` makes at least n items, if the closure never fails.
   pub length_padded : (n : ℕ) (l : List (Result A E)) → length (items_listed (padded n (λ i. Ok (h i)) l)) ≡ max n (length (items_listed l))
   length_padded n l = let k = length (items_listed l) in let all : length (items_listed (padded n (λ i. Ok (h i)) l)) ≡ length (items_listed l ++ from_index h k (n - k)) = ap length (items_of_padded n l) in let both = length-append (items_listed l) (from_index h k (n - k)) in let many = length_from_index h k (n - k) in omega (arith, all, both, many)
 
+  -- The failures of `padded` are the list's, if the closure never fails.
   pub failures_of_padded : (n : ℕ) (l : List (Result A E)) → failures_listed (padded n (λ i. Ok (h i)) l) ≡ failures_listed l
   unfolding padded
   failures_of_padded n l = failures_from_index l _ _

@@ -5,6 +5,6 @@ where
     C: Default + Extend<Self::Item>,
 {
     let mut made = Extended(C::default());
-    let failure = whole(self.drive(&mut made, &PushTurn)).err();
+    let failure = whole(self.drive(&mut made, &CollectTurn)).err();
     (made.0, failure)
 }
