@@ -25,6 +25,7 @@ REASONS = [
     (r"errors\.rs", r"Display for NotOne\.fmt", "new", "what the error says"),
     (r"counts\.rs", r"Collect for Tally\.empty", "left out", "`counts` makes the empty map"),
     (r"group_map\.rs", r"Collect for GroupMap\.empty", "left out", "`into_group_map` makes the empty map"),
+    (r"(?<!base/)gathering\.rs", r"gathered", "left out", "`join` and `tail` are refused nothing"),
     (r"total\.rs", r".*", "left out", "`sum` and `product` are std's"),
     (r"until_failure\.rs", r"with_failure", "left out", "`collect_until_failure` is refused nothing"),
     (r"parted\.rs", r"without_fault", "left out", "`partition_failures` never fails"),

@@ -103,6 +103,9 @@ ITERTOOLS = [
     (r"fold_by_key\.rs", r"^use fallible_iterator::\{Fault, Turn\};", "use fallible_iterator::Turn;", 1),
     # std has its own sums and products.
     (r"lib\.rs", r"^pub (?:mod total;|use total::Total;)\n", "", 2),
+    # What a refusal ends.
+    (r"lib\.rs", r"^pub mod gathering;\n", "", 1),
+    (r"traits\.rs", r"^use crate::gathering::gathered;\n", "", 1),
     (r"k_smallest\.rs", r"^// (?:Where the item|Inserts the|Moves the|Sorts the items in|Cuts what is kept, and)(?:.*\n)*?\}\n\n", "", 5),
     # What no user sees.
     (r"(?:keyed|parted)\.rs", r"^pub struct", "pub(crate) struct", 2),
@@ -166,6 +169,6 @@ def to_rust(crate, files):
     if crate == "fallible-iterator":
         drop_files("map", files, LEFT_OUT)
     else:
-        drop_files("map", files, ["total.rs", "until_failure.rs"])
+        drop_files("map", files, ["gathering.rs", "total.rs", "until_failure.rs"])
     apply("map", files, STD)
     apply("map", files, ITERATOR if crate == "fallible-iterator" else ITERTOOLS)
