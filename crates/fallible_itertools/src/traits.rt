@@ -1278,7 +1278,7 @@ pub trait FallibleItertools: FallibleIterator {
     where
         I: IntoFallibleIterator<Item = Self::Item, Error = Self::Error>,
         Self::Item: PartialOrd + Drop,
-        ensures begun { BothBegun self I.into_gives other (merge_parts result) }
+        ensures begun { BothBegun self I.into_gives other ((None, None), tt) (merge_parts result) }
         ensures bounded { (a b k : ℕ) → Self.contract.bound self a
             → I.IntoFallibleIter.contract.bound
             (sides.right_source (merge_parts result)) b → a + b ≤ k
@@ -1319,7 +1319,8 @@ pub trait FallibleItertools: FallibleIterator {
             → IsCallable (sides.call_on_two (call_at_two F.FnMut))
             (λ g z. takes_at_two F.FnMut g z.0 z.1) (λ z. Self.contract.may_give self z.0
             × I.IntoFallibleIter.contract.may_give right z.1) f }
-        ensures begun { BothBegun self I.into_gives other (merge_by.merge_by_parts result) }
+        ensures begun { BothBegun self I.into_gives other ((None, None), f)
+            (merge_by.merge_by_parts result) }
         ensures closure { sides.asked_closure (merge_by.merge_by_parts result) ≡ f }
         ensures bounded { (a b k : ℕ) → Self.contract.bound self a
             → I.IntoFallibleIter.contract.bound
@@ -1367,7 +1368,8 @@ pub trait FallibleItertools: FallibleIterator {
             → IsCallable (sides.call_on_two (join_by.call_at_both F.FnMut))
             (λ g z. join_by.takes_at_both F.FnMut g z.0 z.1) (λ z. Self.contract.may_give self z.0
             × I.IntoFallibleIter.contract.may_give right z.1) f }
-        ensures begun { BothBegun self I.into_gives other (join_by.merge_join_by_parts result) }
+        ensures begun { BothBegun self I.into_gives other ((None, None), f)
+            (join_by.merge_join_by_parts result) }
         ensures closure { sides.asked_closure (join_by.merge_join_by_parts result) ≡ f }
         ensures bounded { (a b k : ℕ) → Self.contract.bound self a
             → I.IntoFallibleIter.contract.bound
@@ -1409,11 +1411,11 @@ pub trait FallibleItertools: FallibleIterator {
     final fn zip_longest<I>(self, other: I) -> ZipLongest<Self, I::IntoFallibleIter>
     where
         I: IntoFallibleIterator<Error = Self::Error>,
-        ensures begun { BothBegun self I.into_gives other
-            (zip_longest.zip_longest_parts {B = I.Item} result) }
+        ensures begun { BothBegun self I.into_gives other None
+            (zip_longest.zip_longest_parts result) }
         ensures bounded { (a b k : ℕ) → Self.contract.bound self a
             → I.IntoFallibleIter.contract.bound
-            (sides.right_source (zip_longest.zip_longest_parts {B = I.Item} result)) b → a + b ≤ k
+            (sides.right_source (zip_longest.zip_longest_parts result)) b → a + b ≤ k
             → AtMost (seen_as zip_longest.zip_longest_parts
             (zip_longest.zip_longest_contract Self.contract I.IntoFallibleIter.contract)) result k }
         ensures lists { OverBoth Self.contract.steps self I.into_gives other
@@ -1449,11 +1451,12 @@ pub trait FallibleItertools: FallibleIterator {
         I: IntoFallibleIterator<Error = Self::Error>,
         F: FnMut() -> Self::Error,
         requires { IsCallable (call_of_none F.FnMut) (λ g _. F.pre g) (λ _. ⊤) unequal }
-        ensures begun { BothBegun self I.into_gives other (zip_eq.zip_eq_parts {B = I.Item} result) }
-        ensures closure { sides.asked_closure (zip_eq.zip_eq_parts {B = I.Item} result) ≡ unequal }
+        ensures begun { BothBegun self I.into_gives other (None, unequal)
+            (zip_eq.zip_eq_parts result) }
+        ensures closure { sides.asked_closure (zip_eq.zip_eq_parts result) ≡ unequal }
         ensures bounded { (a b k : ℕ) → Self.contract.bound self a
             → I.IntoFallibleIter.contract.bound
-            (sides.right_source (zip_eq.zip_eq_parts {B = I.Item} result)) b → a + b ≤ k
+            (sides.right_source (zip_eq.zip_eq_parts result)) b → a + b ≤ k
             → AtMost (seen_as zip_eq.zip_eq_parts (zip_eq.zip_eq_contract Self.contract
             I.IntoFallibleIter.contract F.FnMut)) result k }
         ensures lists { (e : Self.Error) → list.Acts (call_of_none F.FnMut) unequal (λ _. e)
@@ -1530,9 +1533,9 @@ pub trait FallibleItertools: FallibleIterator {
         ensures ended { pad_using.pad_using_ended result ≡ false }
         ensures indices { pad_using.pad_using_indices result ≡ (0, n) }
         ensures closure { pad_using.pad_using_closure result ≡ f }
-        ensures callable { IsCallable (pad_using.pad_call F.FnMut) (pad_using.pad_takes F.FnMut)
-            ((pad_using.beside_index_contract Self.contract).may_give
-            (pad_using.pad_using_parts result).0) f }
+        ensures callable { IsCallable (call_by_value F.FnMut) (takes_by_value F.FnMut)
+            ((pad_using.index_contract {E = Self.Error}).may_give
+            (pad_using.pad_using_indices result)) f }
         ensures bounded { (a k : ℕ) → Self.contract.bound self a → a + n ≤ k
             → AtMost (seen_as pad_using.pad_using_parts
             (pad_using.pad_using_contract Self.contract F.FnMut)) result k }
