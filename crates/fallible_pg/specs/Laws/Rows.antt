@@ -1,5 +1,5 @@
 -- The runs of rows are their definition.
-use Rattle.std.specs.Prelude.{◌≡◌, ℕ, ◌+◌, ◌==◌, Bool, true, false, if◌then◌else◌, ◌↔◌, All, List, [], ◌∷◌, ◌++◌, map, slice_index, Option, Some, None, Ok, Err}
+use Rattle.std.specs.Prelude.{◌≡◌, ℕ, ◌==◌, Bool, true, false, if◌then◌else◌, ◌↔◌, All, List, [], ◌∷◌, ◌++◌, map, slice_index, Option, Some, None, Ok, Err}
 use Rattle.std.proofs.Common.{refl, sym, ap, subst, ◌∙◌}
 use Rattle.std.proofs.lemmas.List.Elements.{All-nil, All-cons, All-head, All-tail}
 use Rattle.fallible_iterator.specs.Traces.{Answered, Run, Yields, item}
