@@ -3,11 +3,9 @@ use Rattle.std.specs.Prelude.{◌≡◌, ℕ, zero, suc, ◌+◌, ◌*◌, ◌/�
 use Rattle.std.proofs.Common.{refl, sym, ap, subst, ◌∙◌, arith}
 use Rattle.std.proofs.lemmas.List.{length-drop, drop-drop, drop_all}
 use Rattle.fallible_iterator.specs.Traces.{Answered, Run, end, failure, item}
-use Rattle.fallible_iterator.specs.Contract.{Lawful}
-use Rattle.fallible_iterator.specs.Laws.Contract.{lawful_with_traces}
 use Rattle.fallible_iterator.specs.Laws.LawForm.{IsTraced}
 use Rattle.fallible_iterator.specs.Showing.{first_answers}
-use Rattle.fallible_table.specs.Tables.{record_of, cut_of, records_then, records, DrawsRecord, TakesRecords, table_contract}
+use Rattle.fallible_table.specs.Tables.{record_of, records_then, records, DrawsRecord, TakesRecords}
 use Rattle.fallible_table.specs.declared.table.Record.{Record}
 use Rattle.fallible_table.specs.declared.table.CutShort.{CutShort}
 
