@@ -1,7 +1,7 @@
 -- What joins two sources: each call draws of either once or not at all, and makes one answer of that and of what it holds.
 use Rattle.std.specs.Prelude.{ℕ, ◌+◌, ◌≤◌, Bool, Option, Some, None, ◌≡◌, List, [], ◌∷◌, map, Ok, Err, Result, ◌⊎◌}
 use Rattle.std.specs.List.{FoldsTo, filter_map}
-use Rattle.std.specs.Iterator.{Count, count_add, count_map}
+use Rattle.std.specs.Iterator.{count_add, count_map}
 use Rattle.std.specs.declared.cmp.Ordering.{Ordering}
 use Rattle.std.specs.declared.cmp.Ordering.TheVariants.{Less, Equal, Greater}
 use Rattle.fallible_iterator.specs.Traces.{Answered, item, failure, end}

@@ -1,5 +1,5 @@
 -- What joins two sources: what it lists, and a fold of both sides.
-use Rattle.std.specs.Prelude.{Bool, true, false, ℕ, ◌≡◌, ◌⊎◌, ◌+◌, ◌-◌, ◌≤◌, List, [], ◌∷◌, Some, None, Option, Result, Ok, Err, ⊤}
+use Rattle.std.specs.Prelude.{Bool, false, ℕ, ◌≡◌, ◌⊎◌, ◌-◌, ◌≤◌, List, [], ◌∷◌, Some, None, Option, Result, Ok, Err, ⊤}
 use Rattle.std.proofs.Common.{refl, sym, ap, subst, ◌∙◌, arith, inl, inr}
 use Rattle.fallible_iterator.specs.Traces.{Answered, Run, item, failure, end}
 use Rattle.fallible_iterator.specs.Contract.{Contract, Lawful}
@@ -16,9 +16,9 @@ use Rattle.std.specs.declared.cmp.Ordering.{Ordering}
 use Rattle.std.specs.declared.cmp.Ordering.TheVariants.{Less, Equal, Greater}
 use Rattle.std.specs.declared.ops.ControlFlow.{ControlFlow}
 use Rattle.std.specs.declared.ops.ControlFlow.TheVariants.{Continue, Break}
-use Rattle.fallible_itertools_joins.specs.Sides.{DrawsIf, MakesBesideLeft, MakesTaken, TurnedOn, YieldsHeldFirst, by_ordering, fused_contract, holding, join_step, made_of_two, taken_before, taken_of_two}
+use Rattle.fallible_itertools_joins.specs.Sides.{DrawsIf, MakesBesideLeft, MakesTaken, TurnedOn, YieldsHeldFirst, by_ordering, fused_contract, holding, join_step, made_of_two, taken_before}
 use Rattle.fallible_itertools_joins.specs.declared.zip_longest.EitherOrBoth.{EitherOrBoth}
-use Rattle.fallible_itertools_joins.specs.declared.zip_longest.EitherOrBoth.TheVariants.{Both, Left, Right}
+use Rattle.fallible_itertools_joins.specs.declared.zip_longest.EitherOrBoth.TheVariants.{Left, Right}
 
 -- a result that is a failure, and which
 pub failure_where_is_err_and : {X E : Type 0} (r : Result X E) (e : E) → IsErrAnd r (λ d. d ≡ e) → r ≡ Err e

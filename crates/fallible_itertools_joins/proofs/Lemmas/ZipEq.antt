@@ -13,7 +13,6 @@ use Rattle.fallible_itertools_joins.specs.Sides.{fused_contract}
 use Rattle.fallible_itertools_joins.specs.ZipEq.{MakesPair, pair_or, takes_none, zip_eq_contract, zip_eq_parts, zipped_equal}
 use Rattle.fallible_itertools_joins.specs.ZipLongest.{longest}
 use Rattle.fallible_itertools_joins.specs.declared.zip_eq.ZipEq.{ZipEq}
-use Rattle.fallible_itertools_joins.specs.declared.zip_longest.EitherOrBoth.{EitherOrBoth}
 use Rattle.fallible_itertools_joins.proofs.Lemmas.Sides.{ListsBy, gives_for_good_of_fresh, lists_for_good_holding}
 use Rattle.fallible_itertools_joins.proofs.Lemmas.ZipLongest.{lists_by_made, made_answer}
 

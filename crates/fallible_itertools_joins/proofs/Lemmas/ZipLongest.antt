@@ -60,7 +60,7 @@ module _ {A B C E : Type 0} (q : Result (EitherOrBoth A B) E → Result C E) (fa
   lists_by_made makes Q of_both = record {
     left_fails = λ a b e is. let w = lists_by_longest.left_fails a b e is in made_where_first _ _ (failure e) w.0 w.1;
     right_fails = λ a b x e is fails. let w = lists_by_longest.right_fails a b x e is fails in made_where_first _ _ (failure e) w.0 w.1;
-    both_give = λ a b x y z f g c i j m. let o = of_both x y z f g c m in let w = longest_first a b x y i j in rw o.1 (o.0, made_where_first _ _ (Ok (longest x y)) w.0 w.1);
+    both_give = λ a b x y z f g c i j m. let o = of_both x y z f g c m in let w = longest_first a b x y i j in let made = made_where_first _ _ (Ok (longest x y)) w.0 w.1 in rw o.1 (o.0, made.0, made.1);
   }
 
 -- ---- what it lists

@@ -1,18 +1,18 @@
 -- What joins two sources is lawful where both are and its join is; and what holds at most one item of each.
-use Rattle.std.specs.Prelude.{ℕ, ◌+◌, ◌-◌, ◌≤◌, Option, Some, None, ◌≡◌, ◌↔◌, List, [], ◌∷◌, map, Ok, Err, ◌⊎◌, ⊤}
+use Rattle.std.specs.Prelude.{ℕ, ◌+◌, ◌≤◌, Option, Some, None, ◌≡◌, List, [], ◌∷◌, map, Ok, Err, ◌⊎◌, ⊤}
 use Rattle.std.specs.List.{FoldsTo, cons_option, filter_map}
 use Rattle.std.specs.Iterator.{IsFinite, size}
-use Rattle.std.proofs.Common.{refl, sym, ap, subst, ap₂, arith, inl, inr}
+use Rattle.std.proofs.Common.{refl, ap, subst, ap₂, arith, inl, inr}
 use Rattle.fallible_iterator.specs.Traces.{Answered, Run, item, failure, end}
 use Rattle.fallible_iterator.specs.Contract.{Contract, OnAnswer, KeptByDraw, Lawful, lenders_of_both}
 use Rattle.fallible_iterator.specs.Cutting.Fuse.{fuse_made}
 use Rattle.fallible_iterator.specs.Held.{held_count}
 use Rattle.fallible_iterator.specs.Laws.Contract.{lawful_parts}
 use Rattle.fallible_iterator.specs.Laws.Cutting.Fuse.{lawful_fuse}
-use Rattle.fallible_iterator.specs.Laws.LawForm.{IsTraced, run_of_whole_list}
+use Rattle.fallible_iterator.specs.Laws.LawForm.{IsTraced}
 use Rattle.fallible_iterator.specs.Sound.{HintsHold}
 use Rattle.fallible_iterator.specs.Laws.Joining.Chain.{both_true_where_cond_true, cond_true_where_both_true}
-use Rattle.fallible_itertools_joins.specs.Sides.{DrawsIf, Join, OrHeld, Place, MakesOfBoth, MakesBesideLeft, SideGives, YieldsHeldFirst, fused_contract, holding, join_as, join_contract, join_step, joins_all, side_held, side_source}
+use Rattle.fallible_itertools_joins.specs.Sides.{DrawsIf, Join, OrHeld, Place, MakesBesideLeft, SideGives, YieldsHeldFirst, fused_contract, holding, join_as, join_contract, join_step, joins_all, side_held, side_source}
 use Rattle.fallible_itertools_joins.specs.declared.sides.JoinSide.{JoinSide}
 
 -- ---- a fused source

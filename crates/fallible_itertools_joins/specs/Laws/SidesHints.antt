@@ -1,18 +1,17 @@
 -- Why the hints of what joins two sources are sound where it says so.
-use Rattle.std.specs.Prelude.{ℕ, ◌≡◌, ◌+◌, ◌≤◌, max, Bool, true, false, length, List, [], ◌∷◌, Some, None, Option, Ok, Err, IfSome, ⊤}
+use Rattle.std.specs.Prelude.{ℕ, ◌≡◌, ◌+◌, ◌≤◌, Bool, true, false, length, List, [], ◌∷◌, Some, None, Option, Ok, Err, IfSome, ⊤}
 use Rattle.std.proofs.Common.{refl, sym, ap, subst, arith}
 use Rattle.fallible_iterator.specs.Traces.{Answered, Yields, item, failure, end, is_end}
 use Rattle.fallible_iterator.specs.Closing.{closing_step}
 use Rattle.fallible_iterator.specs.Contract.{Contract, Lawful}
 use Rattle.fallible_iterator.specs.Cutting.Fuse.{fuse_parts}
 use Rattle.fallible_iterator.specs.Held.{held_count}
-use Rattle.fallible_iterator.specs.Hints.{fitting_sum, hint_sum}
 use Rattle.fallible_iterator.specs.Laws.Hints.Brackets.{AsSoundAsBoth}
 use Rattle.fallible_iterator.specs.Laws.Hints.Drawn.{if_some_at_least_of_smaller}
 use Rattle.fallible_iterator.specs.Laws.Hints.Joining.{if_some_fitting_sum_at_least_both}
 use Rattle.fallible_iterator.specs.Sound.{BoundsAbove, BoundsBelow, HintsHold}
 use Rattle.fallible_itertools_joins.specs.Laws.Sides.{IsLawfulJoin, items_drawn, lawful_fused, lawful_join_where_hints_hold}
-use Rattle.fallible_itertools_joins.specs.Sides.{DrawsIf, Join, MakesBesideLeft, YieldsHeldFirst, as_made_of_sides, fused_contract, holding, join_as, join_contract, join_step, side_hint}
+use Rattle.fallible_itertools_joins.specs.Sides.{DrawsIf, Join, MakesBesideLeft, YieldsHeldFirst, fused_contract, holding, join_as, join_contract, join_step, side_hint}
 
 -- ---- one side
 

@@ -1,6 +1,6 @@
 -- What is made of two items, of which one is taken or both: what it owes, and how many items it makes.
-use Rattle.std.specs.Prelude.{ℕ, ◌+◌, ◌≤◌, max, Option, Some, None, ◌≡◌, Ok, Err, Result, ◌⊎◌}
-use Rattle.std.proofs.Common.{refl, sym, subst, arith, inl, inr}
+use Rattle.std.specs.Prelude.{ℕ, ◌+◌, max, Option, Some, None, ◌≡◌, Ok, Err, Result, ◌⊎◌}
+use Rattle.std.proofs.Common.{refl, subst, arith, inl, inr}
 use Rattle.std.specs.declared.cmp.Ordering.{Ordering}
 use Rattle.std.specs.declared.cmp.Ordering.TheVariants.{Less, Equal, Greater}
 use Rattle.fallible_iterator.specs.Closures.{IsCallable, MayAnswer, Reaches}
