@@ -15,7 +15,7 @@ cd "$(dirname "$0")/.."
 steps() {
     cat <<'END'
 version|release/version.sh|at once
-names|tools/gone_names|at once
+names|release/gone_names|at once
 library|tools/library pack out/library.tar.xz|minutes, once the library is proved
 edits|tools/edits --release|an hour, and the proof of each crate that has some
 pairs|release/release_pairs.sh|three builds of minutes each
@@ -26,9 +26,9 @@ pg|release/pg_runs|2 minutes, once pg_rows is proved; wants PostgreSQL, cargo an
 pg_logins|release/pg_logins|a minute; wants PostgreSQL, cargo and apt
 json|release/json_runs|a minute, once json_tokens is proved
 memory|release/refused_memory.sh|7 minutes
-speed|release/speed.sh|the proof of fallible_speed, and then minutes
+speed|release/speed|the proof of fallible_speed, and then minutes
 elf_speed|release/elf_speed|the proof of fallible_elf and elf_walk, and then minutes; wants cargo and valgrind
-program_speed|release/program_speed.sh|5 minutes; wants count_rows, sum_table, sum_groups, pg_rows and json_tokens proved, cargo, valgrind, GNU time, jq, g++ and apt
+program_speed|release/program_speed|5 minutes; wants count_rows, sum_table, sum_groups, pg_rows and json_tokens proved, cargo, valgrind, GNU time, jq, g++ and apt
 rust_speed|release/rust_bench.sh|3 minutes; wants valgrind and apt
 beside|tools/rust_beside|3 minutes; wants cargo and apt
 clients|release/rust_clients|a quarter of an hour and more; wants cargo, PostgreSQL, SQLite, libclang and apt

@@ -6,6 +6,7 @@ import os
 import re
 import resource
 import select
+import shutil
 import subprocess
 import sys
 import tempfile
@@ -153,3 +154,41 @@ class Count:
         kinds = ", ".join(f"{count} {kind}" for kind, count in self.kinds.items())
         print(f"{self.title}: {kinds} compared, {len(self.differ)} differ")
         return 1 if self.differ else 0
+
+
+# ---- what runs cost
+
+
+def instructions(command, path=os.devnull):
+    """The instructions of a command over the file at a path, by valgrind's callgrind."""
+    told = ran_over(["valgrind", "--tool=callgrind", "--callgrind-out-file=/dev/null", *command], path, seconds=None).told
+    return int(re.search(rb"Collected : (\d+)", told)[1])
+
+
+def least_times(commands, path, runs):
+    """The least processor time of each command over the file at a path, in milliseconds. They take turns."""
+    least = [float("inf")] * len(commands)
+    files = [(os.POSIX_SPAWN_OPEN, 0, path, os.O_RDONLY, 0), *((os.POSIX_SPAWN_OPEN, at, os.devnull, os.O_WRONLY, 0) for at in (1, 2))]
+    for _ in range(runs):
+        for at, command in enumerate(commands):
+            _, status, usage = os.wait4(os.posix_spawnp(command[0], command, {}, file_actions=files), 0)
+            if status != 0:
+                sys.exit(f"{command} ended with {os.waitstatus_to_exitcode(status)} over {path}")
+            least[at] = min(least[at], 1000 * (usage.ru_utime + usage.ru_stime))
+    return least
+
+
+def memory(command, path=os.devnull):
+    """The most memory that a command has over the file at a path, in MB, by GNU time: a process has at least that of the one
+    which it is made from."""
+    with tempfile.NamedTemporaryFile() as used:
+        ran_over(["/usr/bin/time", "-q", "-f", "%M", "-o", used.name, *command], path, seconds=None)
+        return int(used.read().split()[-1]) * 1.024 / 1000
+
+
+def wanted_here(title, *tools):
+    """Ends the script with 2 where one of these tools isn't here."""
+    for tool in tools:
+        if not shutil.which(tool):
+            print(f"{title}: {tool} is not here", file=sys.stderr)
+            sys.exit(2)

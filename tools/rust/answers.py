@@ -96,6 +96,6 @@ def wanted(top, published):
     first = next(k for k, line in enumerate(lines) if line.startswith("copied of map"))
     last = next(k for k, line in enumerate(lines) if line.startswith("rev over"))
     kept = [line for line in lines if line.startswith("positions")] + lines[first:last] + [
-        line for line in lines if line.startswith(("comparisons", "searches"))]
+        line for line in lines if line.startswith(("comparisons", "searches", "calls of equal"))]
     cases = sum(int(re.search(r"(\d+) cases", line).group(1)) for line in kept)
     return kept + ["in all: %d cases, 0 mismatches" % cases]

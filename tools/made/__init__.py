@@ -1,1 +1,0 @@
-"""What `tools/pages` writes of the code, a module for each page or table."""
