@@ -153,7 +153,7 @@ ITERTOOLS = [
     # What an adapter of one's own is made of, which no page tells.
     (r"lib\.rs", r" WithPosition,\s+staging,\n\};\n",
      " WithPosition,\n};\n#[doc(hidden)]\npub use crate::fallible_itertools_adapters::staging;\n", 1),
-    (r"lib\.rs", r"^pub (mod (?!traits;)\w+;)", r"\1", 26),
+    (r"lib\.rs", r"^pub (mod (?!traits;)\w+;)", r"\1", 25),
     (r"lib\.rs", r"^pub mod traits;", r"#[doc(hidden)]\n\g<0>", 1),
     (r"tail\.rs", r"^use std::collections::VecDeque;", "use alloc::collections::VecDeque;", 1),
     (r"(?:all_unique|counts|group_map|join|k_smallest|partition_map|tail)\.rs", r"\A(//.*\n\n)",

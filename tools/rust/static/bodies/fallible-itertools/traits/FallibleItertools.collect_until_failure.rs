@@ -1,5 +1,5 @@
 // changed: the proved fold, into any `Default + Extend`
-// proved: 8507cc41
+// proved: f1766456
 fn collect_until_failure<C>(&mut self) -> (C, Option<Self::Error>)
 where
     C: Default + Extend<Self::Item>,
