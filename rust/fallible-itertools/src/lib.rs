@@ -57,7 +57,6 @@ mod sorted_unstable;
 #[cfg(feature = "alloc")]
 mod tail;
 mod traits;
-mod until_failure;
 #[cfg(doc)]
 pub mod words;
 

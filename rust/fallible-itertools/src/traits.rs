@@ -8,8 +8,8 @@ use crate::base::drive::whole;
 use crate::base::gathering::gathered;
 use crate::base::{CollectTurn, Extended};
 use crate::base::{
-    FindTest, FindTurn, ForEachTurn, PositionTurn, ReadEq, Reading, answer_or, answer_or_none,
-    found, ordered,
+    CollectTurn, FindTest, FindTurn, ForEachTurn, PositionTurn, ReadEq, Reading, answer_or,
+    answer_or_none, found, ordered,
 };
 use crate::checked_sum::{CheckedTotal, ProductTurn, SumTurn, total_or_none};
 use crate::cmp_by::{CmpTurn, EqTurn, compare_by};
@@ -45,7 +45,6 @@ use crate::minmax_by::{find_both_by, find_both_by_key};
 use crate::parted::Parted;
 use crate::partition_map::Either;
 use crate::position_best::{first_is_less, place_alone};
-use crate::until_failure::PushTurn;
 #[cfg(feature = "alloc")]
 use crate::{k_smallest, sorted, sorted_unstable, tail};
 #[cfg(feature = "alloc")]
@@ -1436,7 +1435,7 @@ pub trait FallibleItertools: FallibleIterator + Sized {
     /// As it is proved, in [these words](crate::words):
     ///
     /// ```text
-    /// ensures begun { BothBegun self I.into_gives other (merge_parts result) }
+    /// ensures begun { BothBegun self I.into_gives other ((None, None), tt) (merge_parts result) }
     /// ensures bounded { (a b k : ℕ) → Self.contract.bound self a
     ///     → I.IntoFallibleIter.contract.bound
     ///     (sides.right_source (merge_parts result)) b → a + b ≤ k
@@ -1485,7 +1484,8 @@ pub trait FallibleItertools: FallibleIterator + Sized {
     ///     → IsCallable (sides.call_on_two (call_at_two F.FnMut))
     ///     (λ g z. takes_at_two F.FnMut g z.0 z.1) (λ z. Self.contract.may_give self z.0
     ///     × I.IntoFallibleIter.contract.may_give right z.1) f }
-    /// ensures begun { BothBegun self I.into_gives other (merge_by.merge_by_parts result) }
+    /// ensures begun { BothBegun self I.into_gives other ((None, None), f)
+    ///     (merge_by.merge_by_parts result) }
     /// ensures closure { sides.asked_closure (merge_by.merge_by_parts result) ≡ f }
     /// ensures bounded { (a b k : ℕ) → Self.contract.bound self a
     ///     → I.IntoFallibleIter.contract.bound
@@ -1542,7 +1542,8 @@ pub trait FallibleItertools: FallibleIterator + Sized {
     ///     → IsCallable (sides.call_on_two (join_by.call_at_both F.FnMut))
     ///     (λ g z. join_by.takes_at_both F.FnMut g z.0 z.1) (λ z. Self.contract.may_give self z.0
     ///     × I.IntoFallibleIter.contract.may_give right z.1) f }
-    /// ensures begun { BothBegun self I.into_gives other (join_by.merge_join_by_parts result) }
+    /// ensures begun { BothBegun self I.into_gives other ((None, None), f)
+    ///     (join_by.merge_join_by_parts result) }
     /// ensures closure { sides.asked_closure (join_by.merge_join_by_parts result) ≡ f }
     /// ensures bounded { (a b k : ℕ) → Self.contract.bound self a
     ///     → I.IntoFallibleIter.contract.bound
@@ -1594,11 +1595,11 @@ pub trait FallibleItertools: FallibleIterator + Sized {
     /// As it is proved, in [these words](crate::words):
     ///
     /// ```text
-    /// ensures begun { BothBegun self I.into_gives other
-    ///     (zip_longest.zip_longest_parts {B = I.Item} result) }
+    /// ensures begun { BothBegun self I.into_gives other None
+    ///     (zip_longest.zip_longest_parts result) }
     /// ensures bounded { (a b k : ℕ) → Self.contract.bound self a
     ///     → I.IntoFallibleIter.contract.bound
-    ///     (sides.right_source (zip_longest.zip_longest_parts {B = I.Item} result)) b → a + b ≤ k
+    ///     (sides.right_source (zip_longest.zip_longest_parts result)) b → a + b ≤ k
     ///     → AtMost (seen_as zip_longest.zip_longest_parts
     ///     (zip_longest.zip_longest_contract Self.contract I.IntoFallibleIter.contract)) result k }
     /// ensures lists { OverBoth Self.contract.steps self I.into_gives other
@@ -1641,11 +1642,12 @@ pub trait FallibleItertools: FallibleIterator + Sized {
     ///
     /// ```text
     /// requires { IsCallable (call_of_none F.FnMut) (λ g _. F.pre g) (λ _. ⊤) unequal }
-    /// ensures begun { BothBegun self I.into_gives other (zip_eq.zip_eq_parts {B = I.Item} result) }
-    /// ensures closure { sides.asked_closure (zip_eq.zip_eq_parts {B = I.Item} result) ≡ unequal }
+    /// ensures begun { BothBegun self I.into_gives other (None, unequal)
+    ///     (zip_eq.zip_eq_parts result) }
+    /// ensures closure { sides.asked_closure (zip_eq.zip_eq_parts result) ≡ unequal }
     /// ensures bounded { (a b k : ℕ) → Self.contract.bound self a
     ///     → I.IntoFallibleIter.contract.bound
-    ///     (sides.right_source (zip_eq.zip_eq_parts {B = I.Item} result)) b → a + b ≤ k
+    ///     (sides.right_source (zip_eq.zip_eq_parts result)) b → a + b ≤ k
     ///     → AtMost (seen_as zip_eq.zip_eq_parts (zip_eq.zip_eq_contract Self.contract
     ///     I.IntoFallibleIter.contract F.FnMut)) result k }
     /// ensures lists { (e : Self.Error) → list.Acts (call_of_none F.FnMut) unequal (λ _. e)
@@ -1739,9 +1741,9 @@ pub trait FallibleItertools: FallibleIterator + Sized {
     /// ensures ended { pad_using.pad_using_ended result ≡ false }
     /// ensures indices { pad_using.pad_using_indices result ≡ (0, n) }
     /// ensures closure { pad_using.pad_using_closure result ≡ f }
-    /// ensures callable { IsCallable (pad_using.pad_call F.FnMut) (pad_using.pad_takes F.FnMut)
-    ///     ((pad_using.beside_index_contract Self.contract).may_give
-    ///     (pad_using.pad_using_parts result).0) f }
+    /// ensures callable { IsCallable (call_by_value F.FnMut) (takes_by_value F.FnMut)
+    ///     ((pad_using.index_contract {E = Self.Error}).may_give
+    ///     (pad_using.pad_using_indices result)) f }
     /// ensures bounded { (a k : ℕ) → Self.contract.bound self a → a + n ≤ k
     ///     → AtMost (seen_as pad_using.pad_using_parts
     ///     (pad_using.pad_using_contract Self.contract F.FnMut)) result k }
@@ -2237,7 +2239,7 @@ pub trait FallibleItertools: FallibleIterator + Sized {
         C: Default + Extend<Self::Item>,
     {
         let mut made = Extended(C::default());
-        let failure = whole(self.by_turns(&mut made, &PushTurn)).err();
+        let failure = whole(self.by_turns(&mut made, &CollectTurn)).err();
         (made.0, failure)
     }
 
