@@ -115,9 +115,9 @@ RULES = [
     (ADAPTERS + r"/peeking_take_while\.rs", r"^// What the closure returns on the buffered item(?:.*\n)*?\}\n\n", "", 1),
     (ADAPTERS + r"/peeking_take_while\.rs", r"\Z", piece("peeked_end"), 1),
     # What hands on the two that it got, beside a number.
-    (r"cmp_by\.rs", r"^use fallible_iterator::extending::number_of_either;\n", "", 1),
-    (r"cmp_by\.rs", r"\bnumber_of_either(?=\(left, right\))", "", 1),
-    (r"traits\.rs", r"^use crate::parted::", "use crate::base::drive::whole;\n\\g<0>", 1),
+    (r"equal\.rs", r"^use fallible_iterator::extending::number_of_either;\n", "", 1),
+    (r"equal\.rs", r"\bnumber_of_either(?=\(left, right\))", "", 1),
+    (r"traits\.rs", r"^use crate::partition::", "use crate::base::drive::whole;\n\\g<0>", 1),
     # `collect` into a `Vec` is a fold of one's own.
     (r"traits\.rs", r"^#\[cfg\(feature = \"alloc\"\)\]\n(?=use core::fmt::Display;)",
      '#[cfg(feature = "alloc")]\nuse crate::base::gathering::gathered;\n\\g<0>', 1),

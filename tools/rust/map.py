@@ -76,7 +76,7 @@ ITERATOR = [
 ]
 
 ADAPTERS, JOINS = r"fallible_itertools_adapters", r"fallible_itertools_joins"
-GROUPS = ADAPTERS + r"/(?:chunks|chunk_by)\.rs"
+GROUPS = ADAPTERS + r"/chunks\.rs"
 ITERTOOLS = [
     # The three crates are modules of one.
     (ADAPTERS + r"/.*", r"(?<![\w:])crate::", "crate::fallible_itertools_adapters::", ANY),
@@ -87,65 +87,63 @@ ITERTOOLS = [
     # No allocator is kept.
     (GROUPS, r"^    pub\(crate\) alloc: Global,\n", "", 2),
     (GROUPS, r"^struct (Chunk\w+) \{\n    alloc: Global,\n\}", r"struct \1;", 2),
-    (r"group_map\.rs", r"^    // where .*\n    alloc: Global,\n", "", 1),
+    (r"keyed\.rs", r"^    // where .*\n    alloc: Global,\n", "", 1),
     # Collections are filled from what `new` makes, or whatever extends.
-    (r"(?:counts|group_map|partition_map)\.rs", r"^    fn empty\((?:.*\n)*?    \}\n\n", "", 3),
+    (r"(?:keyed|partition)\.rs", r"^    fn empty\((?:.*\n)*?    \}\n\n", "", 3),
     # Nothing is refused, so what would be told of it goes.
-    (r"parted\.rs", r"^/// Returns the collection, or (?:.*\n)*?\}\n", "", 1),
-    (r"parted\.rs", r"^use fallible_iterator::\{FallibleIterator, Fault\};", "use fallible_iterator::FallibleIterator;", 1),
-    (r"traits\.rs", r"::parted::\{Parted, without_fault\};", "::parted::Parted;", 1),
-    (r"traits\.rs", r"^use crate::until_failure::with_failure;\n", "", 1),
-    (r"lib\.rs", r"^pub mod until_failure;\n", "", 1),
-    (r"fold_by_key\.rs", r"\bB: Copy\b", "B: Clone", 1),
-    (r"fold_by_key\.rs", r"\(HashMap<K, B>, F\)(?=,$)", "(HashMap<K, B>, F, Option<B>)", 1),
-    (r"fold_by_key\.rs", r" so far and the closure\.", " so far, the closure, and what may stand in the place of a value while the closure has that.", 1),
-    (r"fold_by_key\.rs", r"\bFault<E>(?=[,>])", "E", 1),
-    (r"fold_by_key\.rs", r"^use fallible_iterator::\{Fault, Turn\};", "use fallible_iterator::Turn;", 1),
+    (r"partition\.rs", r"\n/// Returns the collection(?:, or| beside the failure) (?:.*\n)*?\}\n", "", 2),
+    (r"partition\.rs", r"^use fallible_iterator::\{Collect, FallibleIterator, Fault\};", "use fallible_iterator::{Collect, FallibleIterator};", 1),
+    (r"traits\.rs", r"^(use crate::partition::\{.*Parted), with_failure, without_fault\};", r"\1};", 1),
+    (r"keyed\.rs", r"\bB: Copy\b", "B: Clone", 1),
+    (r"keyed\.rs", r"\(HashMap<K, B>, F\)(?=,$)", "(HashMap<K, B>, F, Option<B>)", 1),
+    (r"keyed\.rs", r" so far and the closure\.", " so far, the closure, and what may stand in the place of a value while the closure has that.", 1),
+    (r"keyed\.rs", r"\bFault<E>(?=[,>])", "E", 1),
+    (r"keyed\.rs", r"^use fallible_iterator::\{Collect, FallibleIterator, Fault, Turn\};", "use fallible_iterator::{Collect, FallibleIterator, Turn};", 1),
     # std has its own sums and products.
     (r"lib\.rs", r"^pub (?:mod total;|use total::Total;)\n", "", 2),
     # What a refusal ends.
     (r"lib\.rs", r"^pub mod gathering;\n", "", 1),
     (r"traits\.rs", r"^use crate::gathering::gathered;\n", "", 1),
-    (r"k_smallest\.rs", r"^// (?:Where the item|Inserts the|Moves the|Sorts the items in|Cuts what is kept, and)(?:.*\n)*?\}\n\n", "", 5),
+    (r"sorted\.rs", r"^// (?:Where the item|Inserts the|Moves the|Sorts the items in|Cuts what is kept, and)(?:.*\n)*?\}\n\n", "", 5),
     # What no user sees.
-    (r"(?:keyed|parted)\.rs", r"^pub struct", "pub(crate) struct", 2),
+    (r"(?:keyed|partition)\.rs", r"^pub (?=struct (?:Keyed|Parted)\b)", "pub(crate) ", 2),
     # A marker that asks nothing of `E`.
-    (ADAPTERS + r"/err_into\.rs", r"^ *#\[derive_where\(.*\)\]\n", "", 2),
-    (ADAPTERS + r"/err_into\.rs", r"(pub\(crate\) made: PhantomData<)E>", r"\1fn() -> E>", 1),
-    (ADAPTERS + r"/err_into\.rs", r"\Z", (PIECES / "err_into.rs").read_text(encoding="utf-8"), 1),
+    (ADAPTERS + r"/failing\.rs", r"^ *#\[derive_where\(.*\)\]\n", "", 2),
+    (ADAPTERS + r"/failing\.rs", r"(pub\(crate\) made: PhantomData<)E>", r"\1fn() -> E>", 1),
+    (ADAPTERS + r"/failing\.rs", r"\Z", (PIECES / "err_into.rs").read_text(encoding="utf-8"), 1),
     # Rust has no `derive_where`.
     (JOINS + r"/kmerge(?:_by)?\.rs", r"^#\[derive_where\(.*\)\]\n", "", 4),
     (JOINS + r"/kmerge\.rs", r"\Z", (PIECES / "kmerge.rs").read_text(encoding="utf-8"), 1),
     (JOINS + r"/kmerge_by\.rs", r"\Z", (PIECES / "kmerge_by.rs").read_text(encoding="utf-8"), 1),
     (r"minmax\.rs", r"^impl<T: Copy> MinMaxResult<T>", "impl<T: Clone> MinMaxResult<T>", 1),
-    (r"(?:minmax|partition_map|fold_while|exactly_one)\.rs", r"^(#\[derive\(Clone, Copy, Debug, PartialEq, Eq)\)\]", r"\1, Hash)]", 4),
-    (ADAPTERS + r"/with_position\.rs", r"^#\[derive\(Clone, Copy, Debug, PartialEq, Eq\)\]", "#[derive(Clone, Copy, Debug, PartialEq, Eq, Hash)]", 1),
-    (JOINS + r"/zip_longest\.rs", r"^#\[derive\(Clone, Debug, PartialEq, Eq\)\]", "#[derive(Clone, Copy, Debug, PartialEq, Eq, Hash)]", 1),
+    (r"(?:minmax|partition|fold_while|find)\.rs", r"^(#\[derive\(Clone, Copy, Debug, PartialEq, Eq)\)\]", r"\1, Hash)]", 4),
+    (ADAPTERS + r"/positions\.rs", r"^#\[derive\(Clone, Copy, Debug, PartialEq, Eq\)\]", "#[derive(Clone, Copy, Debug, PartialEq, Eq, Hash)]", 1),
+    (JOINS + r"/zip\.rs", r"^#\[derive\(Clone, Debug, PartialEq, Eq\)\]", "#[derive(Clone, Copy, Debug, PartialEq, Eq, Hash)]", 1),
     # Imports.
     (r"all_unique\.rs", r"^use fallible_iterator::\{Fault, Turn\};", "use fallible_iterator::Turn;", 1),
-    (r"sorted\.rs", r"^use fallible_iterator::Fault;", "use alloc::vec::Vec;", 1),
+    (r"sorted\.rs", r"^use fallible_iterator::\{Fault, Turn\};", "use fallible_iterator::Turn;", 1),
     (r"traits\.rs", r"^use fallible_iterator::\{Collect, FallibleIterator, Fault, Into", "use fallible_iterator::"
      "fallible_contract::collecting::{CollectTurn, Extended};\nuse fallible_iterator::{FallibleIterator, Into", 1),
     (r"join\.rs", r"^use core::fmt::Display;", "use alloc::string::String;\nuse core::fmt::{Display, Write};", 1),
     # The trait of the Rust crate is for types without a size too.
     (r"(?:traits|double_ended|.*/peeking_take_while)\.rs", r"^(pub trait \w+: \w+) \{", r"\1 + Sized {", 3),
     # Features.
-    (r"(?:fallible_\w+|lib)\.rs", r"^pub (?:mod (?:chunk_by|chunks|join|k_smallest|kmerge|kmerge_by|merge_tree|sorted|sorted_unstable|tail);|use (?:chunk_by|chunks|kmerge|kmerge_by)::)", r'#[cfg(feature = "alloc")]\n\g<0>', 14),
-    (r"(?:fallible_\w+|lib)\.rs", r"^pub (?:mod (?:all_unique|counts|duplicates|fold_by_key|group_map|keyed|unique|unique_by);|use (?:duplicates|unique(?:_by)?)::)",
-     r'#[cfg(feature = "std")]\n\g<0>', 11),
+    (r"(?:fallible_\w+|lib)\.rs", r"^pub (?:mod (?:chunks|join|kmerge|kmerge_by|sorted|tail);|use (?:chunks|kmerge|kmerge_by)::)", r'#[cfg(feature = "alloc")]\n\g<0>', 9),
+    (r"(?:fallible_\w+|lib)\.rs", r"^pub (?:mod (?:all_unique|keyed|unique);|use unique::)",
+     r'#[cfg(feature = "std")]\n\g<0>', 4),
     (r"(?:lib|traits)\.rs", r"\bChunkBy,\s+Chunks,\s+|\bDuplicates,\s+|\bKMerge,\s+KMergeBy,\s+|\bUnique,\s+UniqueBy,\s+", "", 7),
     (r"(?:lib|traits)\.rs", r"^((?:pub )?use crate::fallible_itertools_adapters::)\{",
      r'#[cfg(feature = "alloc")]\n\1{ChunkBy, Chunks};\n#[cfg(feature = "std")]\n\1{Duplicates, Unique, UniqueBy};\n\g<0>', 2),
-    (r"(?:.*/)?(?:chunk_by|chunks|group_map|k_smallest|kmerge_by|sorted_unstable)\.rs", r"\A(//.*\n\n)", r"\1use alloc::vec::Vec;\n", 6),
-    (r".*/(?:kmerge_by|merge_tree)\.rs", r"\A(//.*\n\n)", r"\1use alloc::boxed::Box;\n", 2),
+    (r"(?:.*/)?(?:chunks|keyed|sorted|kmerge_by)\.rs", r"\A(//.*\n\n)", r"\1use alloc::vec::Vec;\n", 4),
+    (r".*/kmerge_by\.rs", r"\A(//.*\n\n)", r"\1use alloc::boxed::Box;\n", 1),
     (r"lib\.rs", r"^pub use crate::fallible_itertools_joins::kmerge_by::\{kmerge, kmerge_by\};", r'#[cfg(feature = "alloc")]\npub use crate::fallible_itertools_joins::{KMerge, KMergeBy, kmerge_by::{kmerge, kmerge_by}};', 1),
-    (r"traits\.rs", r"^use crate::(?:join::|\{k_smallest)", r'#[cfg(feature = "alloc")]\n\g<0>', 2),
+    (r"traits\.rs", r"^use crate::(?:join::|\{sorted)", r'#[cfg(feature = "alloc")]\n\g<0>', 2),
     (r"traits\.rs", r"^use std::collections::\{HashMap, HashSet, VecDeque\};",
      r'#[cfg(feature = "alloc")]\nuse alloc::collections::VecDeque;\nuse std::collections::{HashMap, HashSet};', 1),
     (r"traits\.rs", r"^use core::fmt::Display;",
      r'#[cfg(feature = "alloc")]\nuse alloc::string::String;\n#[cfg(feature = "alloc")]\nuse alloc::vec::Vec;\n#[cfg(feature = "alloc")]\n\g<0>', 1),
-    (r"traits\.rs", r"^use (?:crate::(?:all_unique|counts|group_map|keyed)::|core::hash::|std::coll)",
-     r'#[cfg(feature = "std")]\n\g<0>', 6),
+    (r"traits\.rs", r"^use (?:crate::(?:all_unique|keyed)::|core::hash::|std::coll)",
+     r'#[cfg(feature = "std")]\n\g<0>', 4),
     (r"traits\.rs", r"^    fn (?:chunks|chunk_by|join|k_smallest|sorted(?:_unstable)?(?:_by|_by_key)?|tail)\b", r'    #[cfg(feature = "alloc")]\n\g<0>', 11),
     (r"traits\.rs", r"^    fn (?:all_unique|counts|counts_by|duplicates|fold_by_key|into_group_map|into_group_map_by|unique|unique_by)\b",
      r'    #[cfg(feature = "std")]\n\g<0>', 9),
@@ -153,11 +151,11 @@ ITERTOOLS = [
     # What an adapter of one's own is made of, which no page tells.
     (r"lib\.rs", r" WithPosition,\s+staging,\n\};\n",
      " WithPosition,\n};\n#[doc(hidden)]\npub use crate::fallible_itertools_adapters::staging;\n", 1),
-    (r"lib\.rs", r"^pub (mod (?!traits;)\w+;)", r"\1", 25),
+    (r"lib\.rs", r"^pub (mod (?!traits;)\w+;)", r"\1", 13),
     (r"lib\.rs", r"^pub mod traits;", r"#[doc(hidden)]\n\g<0>", 1),
     (r"tail\.rs", r"^use std::collections::VecDeque;", "use alloc::collections::VecDeque;", 1),
-    (r"(?:all_unique|counts|group_map|join|k_smallest|partition_map|tail)\.rs", r"\A(//.*\n\n)",
-     r"\1use fallible_iterator::memory::AllocError;\n", 7),
+    (r"(?:all_unique|keyed|join|sorted|partition|tail)\.rs", r"\A(//.*\n\n)",
+     r"\1use fallible_iterator::memory::AllocError;\n", 6),
 ]
 
 # Collections of std that are made by Rust's own `collect`.
@@ -169,6 +167,6 @@ def to_rust(crate, files):
     if crate == "fallible-iterator":
         drop_files("map", files, LEFT_OUT)
     else:
-        drop_files("map", files, ["gathering.rs", "total.rs", "until_failure.rs"])
+        drop_files("map", files, ["gathering.rs", "total.rs"])
     apply("map", files, STD)
     apply("map", files, ITERATOR if crate == "fallible-iterator" else ITERTOOLS)

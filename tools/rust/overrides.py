@@ -64,7 +64,7 @@ UNUSED = {
         (r"fallible_core/filtering/.*\.rs", r"(?<=folds::\{)NthTurn, ", "", 2),
         (r"fallible_core/filtering/skip_while\.rs", r"\{FindTurn, Test, found\}", "Test", 1),
     ],
-    "fallible-itertools": [(r"fallible_itertools_adapters/.*\.rs", r"\bGoal, ", "", 2)],
+    "fallible-itertools": [(r"fallible_itertools_adapters/.*\.rs", r"\bGoal, ", "", 1)],
 }
 
 

@@ -141,7 +141,7 @@ class Refusals(unittest.TestCase):
         self.assertFalse(self.out.exists())
 
     def test_the_second_crate_goes_by_what_is_hidden(self):
-        path, old = "crates/fallible_itertools/src/cmp_by.rt", "use fallible_iterator::{FallibleIterator, Turn};"
+        path, old = "crates/fallible_itertools/src/equal.rt", "use fallible_iterator::{FallibleIterator, Turn};"
         self.edit(path, old, "use fallible_iterator::{FallibleIterator, Turn, fold_if};")
         self.refused(path + ":", "beside: not each crate below shows `fallible_iterator::fold_if`")
         self.edit(path, ", fold_if", "")

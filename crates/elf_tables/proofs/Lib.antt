@@ -1,2 +1,1 @@
-mod RunLemmas
-mod WordLemmas
+mod Lemmas

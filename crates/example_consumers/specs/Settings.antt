@@ -3,8 +3,7 @@ use Rattle.std.specs.Prelude.{ℕ, ◌+◌, ◌%◌, ◌^◌, ◌==◌, Bool, Li
 use Rattle.std.specs.List.{before_first, after_first, position_or_len}
 use Rattle.std.specs.Str.Lines.{lines}
 use Rattle.fallible_iterator.specs.Lists.{folded, mapped, on_value, results}
-use Rattle.fallible_itertools.specs.OrElse.{recovered}
-use Rattle.fallible_itertools.specs.StopAfter.{stopped_after}
+use Rattle.fallible_itertools.specs.Failing.{recovered, stopped_after}
 use Rattle.program_io.specs.Numbers.{number_of}
 use Rattle.example_consumers.specs.declared.settings.BadLine.{BadLine}
 use Rattle.example_consumers.specs.declared.settings.NoSettings.{NoSettings}

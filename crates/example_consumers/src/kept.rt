@@ -3,7 +3,7 @@ ghost use Rattle.std.specs.Prelude.{Ok, nat_lt};
 ghost use Rattle.std.specs.Ordering.{nat_cmp};
 ghost use Rattle.std.specs.VecDeque.{deque_items};
 ghost use Rattle.fallible_iterator.specs.Lists.{CollectedAs, filtered, results};
-ghost use Rattle.fallible_itertools.specs.KSmallest.{IsSmallestOf};
+ghost use Rattle.fallible_itertools.specs.Sorted.{IsSmallestOf};
 ghost use Rattle.fallible_itertools.specs.Tail.{IsTailOf};
 
 use fallible_iterator::{FallibleIterator, Fault, convert};

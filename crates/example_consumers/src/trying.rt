@@ -2,7 +2,7 @@
 ghost use Rattle.std.specs.Prelude.{◌≡◌, ◌-◌, ◌^◌, ℕ, eqb, List, Result, Some, None, Ok, Err, if◌then◌else◌, nat_lt};
 ghost use Rattle.fallible_iterator.specs.Contract.{AtMost};
 ghost use Rattle.fallible_iterator.specs.Lists.{Lists, filtered, nth_of, results};
-ghost use Rattle.fallible_itertools.specs.Converting.{rest_try_true, try_each_done, try_found, try_position_in};
+ghost use Rattle.fallible_itertools.specs.Find.{rest_try_true, try_each_done, try_found, try_position_in};
 ghost use Rattle.example_consumers.specs.declared.trying.Trouble.{Trouble};
 
 use fallible_iterator::{FallibleIterator, convert};

@@ -1,7 +1,7 @@
 -- Where items stand.
 use Rattle.std.specs.Prelude.{ℕ, Bool, true, false, nat_lt, ◌&&◌}
-use Rattle.fallible_itertools.specs.AdapterTypes.with_position.Position.{Position}
-use Rattle.fallible_itertools.specs.AdapterTypes.with_position.Position.TheVariants.{First, Middle, Last, Only}
+use Rattle.fallible_itertools.specs.AdapterTypes.positions.Position.{Position}
+use Rattle.fallible_itertools.specs.AdapterTypes.positions.Position.TheVariants.{First, Middle, Last, Only}
 
 -- whether another item comes after the one of that position
 abbrev pub comes_before_another : Position → Bool

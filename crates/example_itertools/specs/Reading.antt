@@ -1,8 +1,7 @@
 -- What the rows of a reader come to.
 use Rattle.std.specs.Prelude.{ℕ, List, Option, Some, None, Result, Ok, Err, if◌then◌else◌, nat_lt}
 use Rattle.fallible_iterator.specs.Lists.{folded, mapped}
-use Rattle.fallible_itertools.specs.OrElse.{recovered}
-use Rattle.fallible_itertools.specs.StopAfter.{stopped_after}
+use Rattle.fallible_itertools.specs.Failing.{recovered, stopped_after}
 use Rattle.fallible_rows.specs.declared.fault.RowFault.{RowFault}
 use Rattle.fallible_rows.specs.declared.fault.RowFault.TheVariants.{Row, Read}
 use Rattle.program_io.specs.declared.reading.ReadFailed.{ReadFailed}

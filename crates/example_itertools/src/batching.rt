@@ -2,11 +2,8 @@
 ghost use Rattle.std.specs.Prelude.{◌≡◌, ℕ, ◌/◌, length, List, Result, Ok, max, nat_eq};
 ghost use Rattle.fallible_iterator.specs.Lists.{counted, folded, mapped, results};
 ghost use Rattle.fallible_iterator.specs.Making.{CollectedMade, ListsMade, SameOrRefused};
-ghost use Rattle.fallible_itertools.specs.ChunkBy.{chunked_by};
-ghost use Rattle.fallible_itertools.specs.Chunks.{chunked};
-ghost use Rattle.fallible_itertools.specs.Duplicates.{duplicates_of};
-ghost use Rattle.fallible_itertools.specs.Unique.{unique_of};
-ghost use Rattle.fallible_itertools.specs.UniqueBy.{unique_by_key};
+ghost use Rattle.fallible_itertools.specs.Chunks.{chunked, chunked_by};
+ghost use Rattle.fallible_itertools.specs.Unique.{duplicates_of, unique_by_key, unique_of};
 ghost use Rattle.example_itertools.specs.declared.batching.NoBatch.{NoBatch};
 ghost use Rattle.std.specs.declared.alloc.AllocError.{AllocError};
 

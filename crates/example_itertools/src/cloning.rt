@@ -5,7 +5,7 @@ ghost use Rattle.fallible_iterator.specs.Lists.{cycled, items, pointed_to, resul
 ghost use Rattle.fallible_iterator.specs.Making.{CollectedMade};
 ghost use Rattle.fallible_iterator.specs.Refusing.{ListsUntilRefused};
 ghost use Rattle.fallible_itertools.specs.Intersperse.{interspersed};
-ghost use Rattle.fallible_itertools.specs.TupleWindows.{HasSecondCloned, windowed};
+ghost use Rattle.fallible_itertools.specs.Tuples.{HasSecondCloned, windowed};
 ghost use Rattle.example_itertools.specs.declared.cloning.NoWord.{NoWord};
 ghost use Rattle.std.specs.declared.alloc.AllocError.{AllocError};
 ghost use Rattle.std.specs.declared.alloc.Global.{Global};

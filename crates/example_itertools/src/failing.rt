@@ -5,11 +5,8 @@ ghost use Rattle.fallible_iterator.specs.Closures.{IsCallable, call_by_reference
 ghost use Rattle.fallible_iterator.specs.Contract.{AtMost};
 ghost use Rattle.fallible_iterator.specs.Failing.{failures_mapped};
 ghost use Rattle.fallible_iterator.specs.Lists.{Lists, ListsForGood, counted, filtered, folded, mapped, nth_of, on_value, results, taken};
-ghost use Rattle.fallible_itertools.specs.FuseAtFailure.{up_to_failure};
-ghost use Rattle.fallible_itertools.specs.OrElse.{recovered};
-ghost use Rattle.fallible_itertools.specs.Parted.{PartitionedFailuresAs};
-ghost use Rattle.fallible_itertools.specs.StopAfter.{stopped_after};
-ghost use Rattle.fallible_itertools.specs.UntilFailure.{CollectedUntilAs};
+ghost use Rattle.fallible_itertools.specs.Failing.{recovered, stopped_after, up_to_failure};
+ghost use Rattle.fallible_itertools.specs.Partition.{CollectedUntilAs, PartitionedFailuresAs};
 ghost use Rattle.example_itertools.specs.declared.failing.NoCount.{NoCount};
 ghost use Rattle.example_itertools.specs.Rows.{below_hundred, row_more, with_row};
 

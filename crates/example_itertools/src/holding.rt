@@ -2,14 +2,9 @@
 ghost use Rattle.std.specs.Prelude.{◌≡◌, ℕ, ◌+◌, ◌-◌, ◌%◌, ◌/◌, ◌^◌, List, Option, Result, Ok, Err, if◌then◌else◌, nat_eq, nat_lt};
 ghost use Rattle.fallible_iterator.specs.Contract.{AtMost};
 ghost use Rattle.fallible_iterator.specs.Lists.{Lists, counted, filtered, folded, nth_of, results};
-ghost use Rattle.fallible_itertools.specs.Coalesce.{coalesced};
-ghost use Rattle.fallible_itertools.specs.Dedup.{deduped};
-ghost use Rattle.fallible_itertools.specs.DedupBy.{deduped_by};
-ghost use Rattle.fallible_itertools.specs.DedupByKey.{deduped_by_key};
-ghost use Rattle.fallible_itertools.specs.RunCounts.{deduped_by_with_count, deduped_with_count};
-ghost use Rattle.fallible_itertools.specs.TupleWindows.{windowed};
-ghost use Rattle.fallible_itertools.specs.Tuples.{tupled};
-ghost use Rattle.fallible_itertools.specs.WithPosition.{positioned};
+ghost use Rattle.fallible_itertools.specs.Coalesce.{coalesced, deduped, deduped_by, deduped_by_key, deduped_by_with_count, deduped_with_count};
+ghost use Rattle.fallible_itertools.specs.Tuples.{tupled, windowed};
+ghost use Rattle.fallible_itertools.specs.Positions.{positioned};
 ghost use Rattle.example_itertools.specs.Places.{comes_before_another, is_above_both};
 
 use fallible_iterator::{FallibleIterator, convert};

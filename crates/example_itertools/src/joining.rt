@@ -3,14 +3,11 @@ ghost use Rattle.std.specs.Ordering.{nat_cmp};
 ghost use Rattle.std.specs.Prelude.{◌≡◌, ◌%◌, ◌/◌, List, Ok, Result, nat_eq, nat_le, Some};
 ghost use Rattle.fallible_iterator.specs.Comparing.{by_cmp, read_as};
 ghost use Rattle.fallible_iterator.specs.Lists.{Lists, ListsForGood, counted, last_of, nth_of, results};
-ghost use Rattle.fallible_itertools.specs.CmpBy.{equal_by, ordered_by};
-ghost use Rattle.fallible_itertools.specs.DedupBy.{deduped_by};
+ghost use Rattle.fallible_itertools.specs.Equal.{equal_by, ordered_by};
+ghost use Rattle.fallible_itertools.specs.Coalesce.{deduped_by};
 ghost use Rattle.fallible_itertools.specs.Interleave.{interleaved};
-ghost use Rattle.fallible_itertools.specs.Merge.{merged_in_order};
-ghost use Rattle.fallible_itertools.specs.MergeBy.{merged};
-ghost use Rattle.fallible_itertools.specs.PadUsing.{padded};
-ghost use Rattle.fallible_itertools.specs.ZipEq.{zipped_equal};
-ghost use Rattle.fallible_itertools.specs.ZipLongest.{zipped_longest};
+ghost use Rattle.fallible_itertools.specs.Merge.{merged, merged_in_order};
+ghost use Rattle.fallible_itertools.specs.Zip.{padded, zipped_equal, zipped_longest};
 
 use fallible_iterator::{FallibleIterator, convert};
 use fallible_itertools::{FallibleItertools, Interleave};

@@ -3,8 +3,7 @@ ghost use Rattle.std.specs.Prelude.{◌≡◌, ◌∷◌, [], MatchResult, Ok, n
 ghost use Rattle.std.specs.Ordering.{nat_cmp};
 ghost use Rattle.fallible_iterator.specs.Comparing.{by_cmp};
 ghost use Rattle.fallible_iterator.specs.Lists.{last_of, results};
-ghost use Rattle.fallible_itertools.specs.KMerge.{kmerged_in_order};
-ghost use Rattle.fallible_itertools.specs.KMergeBy.{kmerged};
+ghost use Rattle.fallible_itertools.specs.KMerge.{kmerged, kmerged_in_order};
 
 use fallible_iterator::{FallibleIterator, convert};
 use fallible_itertools::{kmerge, kmerge_by};

@@ -2,7 +2,7 @@
 ghost use Rattle.std.specs.Prelude.{◌≡◌, false, nat_eq, IfOk};
 ghost use Rattle.fallible_iterator.specs.Lists.{CollectedAs, results};
 ghost use Rattle.fallible_itertools.specs.Adjacent.{Adjacent};
-ghost use Rattle.fallible_itertools.specs.Dedup.{deduped};
+ghost use Rattle.fallible_itertools.specs.Coalesce.{deduped};
 
 use fallible_iterator::{FallibleIterator, Fault, convert};
 use fallible_itertools::FallibleItertools;

@@ -2,9 +2,9 @@
 ghost use Rattle.std.specs.Prelude.{◌≡◌, ◌+◌, ℕ, List, Result, Ok, is_some, not, if◌then◌else◌, unwrap_or};
 ghost use Rattle.std.specs.Ordering.{nat_cmp};
 ghost use Rattle.fallible_iterator.specs.Lists.{CollectedAs, Lists, filter_mapped, results};
-ghost use Rattle.fallible_itertools.specs.MergeJoinBy.{merge_joined};
-ghost use Rattle.fallible_itertools.specs.ZipLongest.{both_of, left_of, only_left, only_right, right_of};
-ghost use Rattle.fallible_itertools.specs.JoinTypes.zip_longest.EitherOrBoth.{EitherOrBoth};
+ghost use Rattle.fallible_itertools.specs.Merge.{merge_joined};
+ghost use Rattle.fallible_itertools.specs.Zip.{both_of, left_of, only_left, only_right, right_of};
+ghost use Rattle.fallible_itertools.specs.JoinTypes.zip.EitherOrBoth.{EitherOrBoth};
 ghost use Rattle.example_itertools.specs.declared.rows.Change.TheVariants.{Added, Kept, Removed};
 
 use fallible_iterator::{FallibleIterator, Fault, convert};

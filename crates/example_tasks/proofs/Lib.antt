@@ -1,7 +1,1 @@
-mod EvaluatingLemmas
-mod GrammarLemmas
-mod LexingLemmas
-mod MergingLemmas
-mod PageLemmas
-mod RoomLemmas
-mod TokenLemmas
+mod Lemmas

@@ -1,12 +1,2 @@
-mod CountLemmas
-mod DigitLemmas
-mod FindingLemmas
+mod Lemmas
 pub mod HeaderFaults
-mod NameLemmas
-mod OverlapLemmas
-mod RangeLemmas
-mod ReadingLemmas
-mod ReportLemmas
-mod SectionLemmas
-mod SetLemmas
-mod TextLemmas

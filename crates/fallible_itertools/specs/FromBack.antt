@@ -5,7 +5,7 @@ use Rattle.fallible_iterator.specs.Folds.{CountedBy, Drained}
 use Rattle.fallible_iterator.specs.Searching.{SearchDrains, any_pick}
 use Rattle.fallible_iterator.specs.Comparing.{read_as}
 use Rattle.fallible_iterator.specs.Lists.{on_value, any_of, counted, rest_true}
-use Rattle.fallible_itertools.specs.UntilFailure.{rest_failure}
+use Rattle.fallible_itertools.specs.Partition.{rest_failure}
 
 -- If the search was true of an item, what is left is counted: the result is the number, or the failure. Otherwise nothing more is drawn.
 abbrev pub CountedWhere : {S A E : Type 0} → (S → Answered A E → S → Type 0) → Result Bool E → S → Result (Option ℕ) E → S → Type 0

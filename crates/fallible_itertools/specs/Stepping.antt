@@ -5,7 +5,7 @@ use Rattle.std.specs.declared.ops.ControlFlow.TheVariants.{Continue, Break}
 use Rattle.fallible_iterator.specs.Traces.{Answered}
 use Rattle.fallible_iterator.specs.Folds.{CallableDriving, Drained, DrivenBy}
 use Rattle.fallible_iterator.specs.Searching.{search_answer}
-use Rattle.fallible_itertools_adapters.specs.Plan.{Plan, calls, makes, plan_takes}
+use Rattle.fallible_itertools_adapters.specs.Staging.{Plan, calls, makes, plan_takes}
 
 -- the fold goes on or stops, and this is kept then
 abbrev pub Flow : Type 0 → Type 0 → Type 0

@@ -1,8 +1,8 @@
 //! Whether items come in order.
 ghost use Rattle.std.specs.Prelude.{◌≡◌, ⊤};
 ghost use Rattle.fallible_iterator.specs.Closures.{call_by_value, takes_by_value};
-ghost use Rattle.fallible_itertools_adapters.specs.DedupBy.{same_call, same_takes};
-ghost use Rattle.fallible_itertools_adapters.specs.Plan.{calls_nothing, plan_takes};
+ghost use Rattle.fallible_itertools_adapters.specs.Coalesce.{same_call, same_takes};
+ghost use Rattle.fallible_itertools_adapters.specs.Staging.{calls_nothing, plan_takes};
 ghost use Rattle.fallible_itertools.specs.IsSorted.{comes_after, item_flow, key_flow, pair_step};
 ghost use Rattle.fallible_itertools.specs.Stepping.{StepTurns, at_once, by_call};
 

@@ -5,38 +5,24 @@
 
 pub mod all_unique;
 pub mod checked_sum;
-pub mod cmp_by;
-pub mod converting;
-pub mod counts;
 pub mod double_ended;
 pub mod equal;
-pub mod exactly_one;
-pub mod find_or_last;
-pub mod find_position;
-pub mod fold_by_key;
+pub mod find;
 pub mod fold_while;
 pub mod gathering;
-pub mod group_map;
 pub mod is_sorted;
 pub mod join;
-pub mod k_smallest;
 pub mod keyed;
 pub mod laws;
 pub mod minmax;
-pub mod minmax_by;
-pub mod parted;
-pub mod partition_map;
-pub mod position_best;
+pub mod partition;
 pub mod sorted;
-pub mod sorted_unstable;
 pub mod tail;
 pub mod total;
 pub mod traits;
-pub mod until_failure;
 
 pub use checked_sum::CheckedTotal;
 pub use double_ended::DoubleEndedFallibleItertools;
-pub use exactly_one::NotOne;
 pub use fallible_itertools_adapters::{
     ChunkBy, Chunks, Coalesce, Copied, Dedup, DedupBy, DedupByKey, DedupByWithCount,
     DedupWithCount, Duplicates, ErrInto, FuseAtFailure, InspectErr, Intersperse, IntersperseWith,
@@ -48,8 +34,9 @@ pub use fallible_itertools_joins::{
     EitherOrBoth, Interleave, KMerge, KMergeBy, Merge, MergeBy, MergeJoinBy, PadUsing, ZipEq,
     ZipLongest,
 };
+pub use find::NotOne;
 pub use fold_while::FoldWhile;
 pub use minmax::MinMaxResult;
-pub use partition_map::Either;
+pub use partition::Either;
 pub use total::Total;
 pub use traits::FallibleItertools;

@@ -28,96 +28,63 @@ ghost use Rattle.fallible_iterator.specs.Picking.{call_at_two, takes_at_two};
 ghost use Rattle.fallible_iterator.specs.Searching as search;
 ghost use Rattle.fallible_itertools.specs.AllUnique.{AllUniqueAs, AllUniqueDrains, rest_repeated};
 ghost use Rattle.fallible_itertools.specs.Begun.{BothBegun};
-ghost use Rattle.fallible_itertools_adapters.specs.ChunkBy.{MadeGroup, chunk_by_contract, chunk_by_parts, chunk_by_plan, chunk_by_stops, chunked_by, puts_by_key, takes_key};
-ghost use Rattle.fallible_itertools_adapters.specs.Chunks.{chunked, chunks_contract, chunks_parts};
+ghost use Rattle.fallible_itertools_adapters.specs.Chunks.{MadeGroup, chunk_by_contract, chunk_by_parts, chunk_by_plan, chunk_by_stops, chunked, chunked_by, chunks_contract, chunks_parts, puts_by_key, takes_key};
 ghost use Rattle.fallible_itertools_adapters.specs.Coalesce as coalesce;
-ghost use Rattle.fallible_itertools.specs.CmpBy as comparing;
-ghost use Rattle.fallible_itertools.specs.Converting as trying;
+ghost use Rattle.fallible_itertools.specs.Equal as comparing;
+ghost use Rattle.fallible_itertools.specs.Find as trying;
 ghost use Rattle.fallible_itertools.specs.Contents.{ContentsOf};
 ghost use Rattle.fallible_itertools_adapters.specs.Copied.{copied_contract, copied_parts};
-ghost use Rattle.fallible_itertools.specs.Counts.{IsCountsOf};
-ghost use Rattle.fallible_itertools_adapters.specs.Dedup.{dedup_contract, dedup_parts, dedup_stops, deduped};
-ghost use Rattle.fallible_itertools_adapters.specs.DedupBy.{dedup_by_contract, dedup_by_parts, dedup_by_plan, deduped_by, same_call, same_takes};
-ghost use Rattle.fallible_itertools_adapters.specs.DedupByKey as dedup_by_key;
-ghost use Rattle.fallible_itertools_adapters.specs.DedupByWithCount.{dedup_by_with_count_contract, dedup_by_with_count_parts};
-ghost use Rattle.fallible_itertools_adapters.specs.DedupWithCount.{dedup_with_count_contract, dedup_with_count_parts};
-ghost use Rattle.fallible_itertools_adapters.specs.Duplicates.{duplicates_came, duplicates_contract, duplicates_of, duplicates_parts, duplicates_source};
+ghost use Rattle.fallible_itertools.specs.Keyed.{AddsValue, FoldedByKeyAs, FoldsByKey, GroupRefuses, IsCountsOf, IsGroupMapOf, IsKeyFoldOf, checked_folds, keyed, keyed_contract, last_value};
+ghost use Rattle.fallible_itertools_adapters.specs.Coalesce.{count_plan, count_stops, dedup_by_contract, dedup_by_parts, dedup_by_plan, dedup_by_with_count_contract, dedup_by_with_count_parts, dedup_contract, dedup_parts, dedup_stops, dedup_with_count_contract, dedup_with_count_parts, deduped, deduped_by, deduped_by_with_count, deduped_with_count, same_call, same_takes};
+ghost use Rattle.fallible_itertools_adapters.specs.Unique.{duplicates_came, duplicates_contract, duplicates_of, duplicates_parts, duplicates_source, unique_contract, unique_of, unique_parts, unique_seen, unique_source};
 ghost use Rattle.fallible_itertools.specs.Equal.{contained, equal_flow, equal_to_first, equal_value, first_or_both, rest_contained, rest_unequal, wanted_flow};
-ghost use Rattle.fallible_itertools_adapters.specs.ErrInto.{err_into_contract, err_into_parts};
-ghost use Rattle.fallible_itertools.specs.ExactlyOne.{AtMostOneDrains, at_most_one_of, wanting_one};
-ghost use Rattle.fallible_itertools_adapters.specs.FuseAtFailure.{fuse_at_failure_contract, fuse_at_failure_parts, up_to_failure};
-ghost use Rattle.fallible_itertools.specs.GroupMap.{GroupRefuses, IsGroupMapOf};
-ghost use Rattle.fallible_itertools_adapters.specs.InspectErr.{inspect_err_contract, inspect_err_parts, seen_call};
-ghost use Rattle.fallible_itertools_adapters.specs.OrElse.{or_else_contract, or_else_parts, recovered};
+ghost use Rattle.fallible_itertools_adapters.specs.Failing.{err_into_contract, err_into_parts, fuse_at_failure_contract, fuse_at_failure_parts, inspect_err_contract, inspect_err_parts, or_else_contract, or_else_parts, recovered, seen_call, stop_after_contract, stop_after_items, stop_after_parts, stopped_after, up_to_failure};
+ghost use Rattle.fallible_itertools.specs.Find.{AtMostOneDrains, at_most_one_of, find_flow, find_position_pick, first_kept, found_or_first, found_or_last, last_kept, position_found, wanting_one};
 ghost use Rattle.fallible_itertools_joins.specs.Interleave as interleave;
 ghost use Rattle.fallible_itertools_adapters.specs.Intersperse.{intersperse_contract, intersperse_parts, intersperse_plan, interspersed, interspersed_by};
-ghost use Rattle.fallible_itertools_adapters.specs.IntersperseWith as intersperse_with;
+ghost use Rattle.fallible_itertools_adapters.specs.Intersperse as intersperse_with;
 ghost use Rattle.fallible_iterator.specs.Sources.FromFn.{call_of_none};
 ghost use Rattle.fallible_itertools.specs.Join.{JoinedAs};
 ghost use Rattle.fallible_itertools_joins.specs.Merge.{merge_contract, merge_parts, merged_in_order};
-ghost use Rattle.fallible_itertools_joins.specs.MergeBy as merge_by;
-ghost use Rattle.fallible_itertools_joins.specs.MergeJoinBy as join_by;
-ghost use Rattle.fallible_itertools.specs.MinMax.{MinMaxDrains, minmaxed, or_less};
-ghost use Rattle.fallible_itertools.specs.MinMaxBy.{MinMaxCall, MinMaxKeyCall, MinMaxKeyDrains, minmaxed_by, minmaxed_by_key, takes_beside};
-ghost use Rattle.fallible_itertools_joins.specs.PadUsing as pad_using;
-ghost use Rattle.fallible_itertools.specs.PositionBest.{PlaceDrains, position_greatest, position_least};
-ghost use Rattle.fallible_itertools_adapters.specs.Plan.{calls_nothing, passes, plan_can};
-ghost use Rattle.fallible_itertools_adapters.specs.Positions.{positions_contract, positions_parts, positions_source, positions_where};
-ghost use Rattle.fallible_itertools_adapters.specs.RunCounts.{count_plan, count_stops, deduped_by_with_count, deduped_with_count};
-ghost use Rattle.fallible_itertools.specs.Parted.{PartitionedFailuresAs, parted_step, without_source};
-ghost use Rattle.fallible_itertools.specs.PartitionMap.{EitherRefused, MadeOfEithers};
-ghost use Rattle.fallible_itertools.specs.FindOrLast.{find_flow, first_kept, found_or_first, found_or_last, last_kept};
-ghost use Rattle.fallible_itertools.specs.FindPosition.{find_position_pick, position_found};
+ghost use Rattle.fallible_itertools_joins.specs.Merge as merge_by;
+ghost use Rattle.fallible_itertools.specs.MinMax.{MinMaxCall, MinMaxDrains, MinMaxKeyCall, MinMaxKeyDrains, PlaceDrains, minmaxed, minmaxed_by, minmaxed_by_key, or_less, position_greatest, position_least, takes_beside};
+ghost use Rattle.fallible_itertools_joins.specs.Zip as pad_using;
+ghost use Rattle.fallible_itertools_adapters.specs.Staging.{MayMeet, calls_nothing, passes, plan_can};
+ghost use Rattle.fallible_itertools_adapters.specs.Positions.{positioned, positions_contract, positions_parts, positions_source, positions_where, with_position_contract, with_position_parts};
+ghost use Rattle.fallible_itertools.specs.Partition.{CollectedUntilAs, CollectsUntil, EitherRefused, MadeOfEithers, PartitionedFailuresAs, parted_step, rest_failure, without_source};
 ghost use Rattle.fallible_itertools.specs.IsSorted.{in_order, in_order_by, in_order_by_key, item_flow, key_flow, pair_step};
-ghost use Rattle.fallible_itertools.specs.Keyed.{keyed, keyed_contract};
-ghost use Rattle.fallible_itertools.specs.FoldByKey.{AddsValue, FoldedByKeyAs, FoldsByKey, IsKeyFoldOf, checked_folds, last_value};
 ghost use Rattle.fallible_itertools.specs.FoldWhile.{WhileCall, FoldWhileDrains, folded_while, rest_while};
-ghost use Rattle.fallible_itertools.specs.KSmallest.{IsSmallestOf, SmallestRefuses};
+ghost use Rattle.fallible_itertools.specs.Sorted.{CollectsInPlace, CollectsSorted, HasItems, HasItemsInOrder, HasItemsInOrderByCalls, HasItemsInOrderByComparisons, HasItemsInOrderByKey, HasItemsInOrderByTest, IsSmallestOf, IsSortedByCalls, IsSortedByComparisons, IsSortedByKeyOf, IsSortedByTest, IsSortedOf, SmallestRefuses};
 ghost use Rattle.fallible_itertools.specs.Tail.{IsTailOf, TailRefuses};
-ghost use Rattle.fallible_itertools.specs.Sorted.{CollectsSorted, HasItems, IsSortedByCalls, IsSortedByComparisons, IsSortedByKeyOf, IsSortedByTest, IsSortedOf};
-ghost use Rattle.fallible_itertools.specs.SortedUnstable.{CollectsInPlace, HasItemsInOrder, HasItemsInOrderByCalls, HasItemsInOrderByComparisons, HasItemsInOrderByKey, HasItemsInOrderByTest};
 ghost use Rattle.fallible_itertools.specs.Stepping.{CallableStepping, ConsumedBy, Consumes, at_once, by_call, stop_or, stop_or_kept, whether_stopped};
 ghost use Rattle.fallible_itertools_joins.specs.Sides as sides;
-ghost use Rattle.fallible_itertools_adapters.specs.StopAfter.{stop_after_contract, stop_after_items, stop_after_parts, stopped_after};
-ghost use Rattle.fallible_itertools_adapters.specs.Staging.{MayMeet};
 ghost use Rattle.fallible_itertools_adapters.specs.TakeWhileInclusive as inclusive;
 ghost use Rattle.fallible_itertools.specs.CheckedSum.{TotalDrains, totalled};
-ghost use Rattle.fallible_itertools_adapters.specs.TupleWindows.{HasSecondCloned, tuple_windows_contract, tuple_windows_parts, windowed};
-ghost use Rattle.fallible_itertools_adapters.specs.Tuples.{tupled, tuples_contract, tuples_parts};
-ghost use Rattle.fallible_itertools_adapters.specs.Unique.{unique_contract, unique_of, unique_parts, unique_seen, unique_source};
-ghost use Rattle.fallible_itertools_adapters.specs.UniqueBy as unique_by;
+ghost use Rattle.fallible_itertools_adapters.specs.Tuples.{HasSecondCloned, tuple_windows_contract, tuple_windows_parts, tupled, tuples_contract, tuples_parts, windowed};
+ghost use Rattle.fallible_itertools_adapters.specs.Unique as unique_by;
 ghost use Rattle.fallible_itertools_adapters.specs.UnlessRefused.{ListsUnlessRefused};
 ghost use Rattle.fallible_itertools.specs.Total.{AddedDrains, added};
-ghost use Rattle.fallible_itertools.specs.UntilFailure.{CollectedUntilAs, CollectsUntil, rest_failure};
-ghost use Rattle.fallible_itertools_adapters.specs.WithPosition.{positioned, with_position_contract, with_position_parts};
-ghost use Rattle.fallible_itertools_joins.specs.ZipEq as zip_eq;
-ghost use Rattle.fallible_itertools_joins.specs.ZipLongest as zip_longest;
-ghost use Rattle.fallible_itertools.specs.declared.exactly_one.NotOne.TheVariants.{More};
+ghost use Rattle.fallible_itertools.specs.declared.find.NotOne.TheVariants.{More};
 ghost use Rattle.fallible_itertools.specs.declared.fold_while.FoldWhile.TheVariants.{Done};
 ghost use Rattle.fallible_itertools.specs.declared.minmax.MinMaxResult.TheVariants.{NoElements};
 
 use crate::all_unique::{AllUniqueTurn, unique_or_fault};
 use crate::checked_sum::{CheckedTotal, ProductTurn, SumTurn, total_or_none};
-use crate::cmp_by::{CmpTurn, EqTurn, compare_by};
-use crate::converting::converted;
-use crate::counts::Tally;
-use crate::equal::{ContainsTurn, EqualTurn, first_or_both, whether_stopped};
-use crate::exactly_one::NotOne;
-use crate::find_or_last::{FindFirstTurn, FindLastTurn};
-use crate::find_position::FindPositionTurn;
+use crate::equal::{
+    CmpTurn, ContainsTurn, EqTurn, EqualTurn, compare_by, first_or_both, whether_stopped,
+};
+use crate::find::{FindFirstTurn, FindLastTurn, FindPositionTurn, NotOne, converted};
 use crate::fold_while::{FoldWhile, FoldWhileTurn, while_or_stop};
 use crate::gathering::gathered;
-use crate::group_map::GroupMap;
 use crate::is_sorted::{IsSortedByKeyTurn, IsSortedByTurn, IsSortedTurn};
 use crate::join::JoinTurn;
-use crate::keyed::Keyed;
-use crate::minmax::{MinMaxResult, MinMaxTurn, lesser_first};
-use crate::minmax_by::{find_both_by, find_both_by_key};
-use crate::parted::{Parted, without_fault};
-use crate::partition_map::Either;
-use crate::position_best::{first_is_less, place_alone};
-use crate::until_failure::with_failure;
-use crate::{k_smallest, sorted, sorted_unstable, tail};
+use crate::keyed::{GroupMap, Keyed, Tally};
+use crate::minmax::{
+    MinMaxResult, MinMaxTurn, find_both_by, find_both_by_key, first_is_less, lesser_first,
+    place_alone,
+};
+use crate::partition::{Either, Parted, with_failure, without_fault};
+use crate::{sorted, tail};
 use fallible_iterator::extending::{
     CollectTurn, FindTest, FindTurn, ForEachTurn, PositionTurn, ReadEq, Reading, answer_or,
     answer_or_none, found, ordered,
@@ -203,16 +170,16 @@ pub trait FallibleItertools: FallibleIterator {
         F: FnMut(&Self::Item) -> Result<K, Self::Error>,
         requires callable { IsCallable (call_by_reference F.FnMut) (takes_by_reference F.FnMut)
             (Self.contract.may_give self) f }
-        ensures parts { dedup_by_key.dedup_by_key_parts result ≡ (self, ((None, f), None)) }
-        ensures callable { plan_can (call_by_reference F.FnMut) (dedup_by_key.dedup_key_plan K.eq)
-            dedup_by_key.dedup_key_stops (takes_by_reference F.FnMut) (MayMeet Self.contract self)
+        ensures parts { coalesce.dedup_by_key_parts result ≡ (self, ((None, f), None)) }
+        ensures callable { plan_can (call_by_reference F.FnMut) (coalesce.dedup_key_plan K.eq)
+            coalesce.dedup_key_stops (takes_by_reference F.FnMut) (MayMeet Self.contract self)
             (None, f) }
         ensures lists { (h : Self.Item → Result K Self.Error)
             (l : List (Result Self.Item Self.Error)) → list.Acts (call_by_reference F.FnMut) f h
             → list.Lists Self.contract.steps self l
-            → list.Lists (seen_as dedup_by_key.dedup_by_key_parts
-            (dedup_by_key.dedup_by_key_contract K.eq F.FnMut Self.contract)).steps result
-            (dedup_by_key.deduped_by_key K.eq h l) }
+            → list.Lists (seen_as coalesce.dedup_by_key_parts
+            (coalesce.dedup_by_key_contract K.eq F.FnMut Self.contract)).steps result
+            (coalesce.deduped_by_key K.eq h l) }
     {
         DedupByKey::new(self, f)
     }
@@ -1365,31 +1332,31 @@ pub trait FallibleItertools: FallibleIterator {
         I: IntoFallibleIterator<Error = Self::Error>,
         F: FnMut(&Self::Item, &I::Item) -> Result<Ordering, Self::Error>,
         requires { (right : I.IntoFallibleIter) → I.into_gives other right
-            → IsCallable (sides.call_on_two (join_by.call_at_both F.FnMut))
-            (λ g z. join_by.takes_at_both F.FnMut g z.0 z.1) (λ z. Self.contract.may_give self z.0
+            → IsCallable (sides.call_on_two (merge_by.call_at_both F.FnMut))
+            (λ g z. merge_by.takes_at_both F.FnMut g z.0 z.1) (λ z. Self.contract.may_give self z.0
             × I.IntoFallibleIter.contract.may_give right z.1) f }
         ensures begun { BothBegun self I.into_gives other ((None, None), f)
-            (join_by.merge_join_by_parts result) }
-        ensures closure { sides.asked_closure (join_by.merge_join_by_parts result) ≡ f }
+            (merge_by.merge_join_by_parts result) }
+        ensures closure { sides.asked_closure (merge_by.merge_join_by_parts result) ≡ f }
         ensures bounded { (a b k : ℕ) → Self.contract.bound self a
             → I.IntoFallibleIter.contract.bound
-            (sides.right_source (join_by.merge_join_by_parts result)) b → a + b ≤ k
-            → AtMost (seen_as join_by.merge_join_by_parts (join_by.merge_join_by_contract
+            (sides.right_source (merge_by.merge_join_by_parts result)) b → a + b ≤ k
+            → AtMost (seen_as merge_by.merge_join_by_parts (merge_by.merge_join_by_contract
             Self.contract I.IntoFallibleIter.contract F.FnMut)) result k }
         ensures lists { (h : Self.Item → I.Item → Result Ordering Self.Error)
-            → list.ActsWith (join_by.call_at_both F.FnMut) f h
+            → list.ActsWith (merge_by.call_at_both F.FnMut) f h
             → OverBoth Self.contract.steps self I.into_gives other
             I.IntoFallibleIter.contract.steps
-            (λ a b. list.Lists (seen_as join_by.merge_join_by_parts
-            (join_by.merge_join_by_contract Self.contract
-            I.IntoFallibleIter.contract F.FnMut)).steps result (join_by.merge_joined h a b)) }
+            (λ a b. list.Lists (seen_as merge_by.merge_join_by_parts
+            (merge_by.merge_join_by_contract Self.contract
+            I.IntoFallibleIter.contract F.FnMut)).steps result (merge_by.merge_joined h a b)) }
         ensures for_good { (h : Self.Item → I.Item → Result Ordering Self.Error)
-            → list.ActsWith (join_by.call_at_both F.FnMut) f h
+            → list.ActsWith (merge_by.call_at_both F.FnMut) f h
             → OverBoth Self.contract.steps self I.into_gives other
             I.IntoFallibleIter.contract.steps
-            (λ a b. list.ListsForGood (seen_as join_by.merge_join_by_parts
-            (join_by.merge_join_by_contract Self.contract
-            I.IntoFallibleIter.contract F.FnMut)).steps result (join_by.merge_joined h a b)) }
+            (λ a b. list.ListsForGood (seen_as merge_by.merge_join_by_parts
+            (merge_by.merge_join_by_contract Self.contract
+            I.IntoFallibleIter.contract F.FnMut)).steps result (merge_by.merge_joined h a b)) }
     {
         MergeJoinBy::new(self.fuse(), other.into_fallible_iter().fuse(), f)
     }
@@ -1412,22 +1379,22 @@ pub trait FallibleItertools: FallibleIterator {
     where
         I: IntoFallibleIterator<Error = Self::Error>,
         ensures begun { BothBegun self I.into_gives other None
-            (zip_longest.zip_longest_parts result) }
+            (pad_using.zip_longest_parts result) }
         ensures bounded { (a b k : ℕ) → Self.contract.bound self a
             → I.IntoFallibleIter.contract.bound
-            (sides.right_source (zip_longest.zip_longest_parts result)) b → a + b ≤ k
-            → AtMost (seen_as zip_longest.zip_longest_parts
-            (zip_longest.zip_longest_contract Self.contract I.IntoFallibleIter.contract)) result k }
+            (sides.right_source (pad_using.zip_longest_parts result)) b → a + b ≤ k
+            → AtMost (seen_as pad_using.zip_longest_parts
+            (pad_using.zip_longest_contract Self.contract I.IntoFallibleIter.contract)) result k }
         ensures lists { OverBoth Self.contract.steps self I.into_gives other
             I.IntoFallibleIter.contract.steps
-            (λ a b. list.Lists (seen_as zip_longest.zip_longest_parts
-            (zip_longest.zip_longest_contract Self.contract
-            I.IntoFallibleIter.contract)).steps result (zip_longest.zipped_longest a b)) }
+            (λ a b. list.Lists (seen_as pad_using.zip_longest_parts
+            (pad_using.zip_longest_contract Self.contract
+            I.IntoFallibleIter.contract)).steps result (pad_using.zipped_longest a b)) }
         ensures for_good { OverBoth Self.contract.steps self I.into_gives other
             I.IntoFallibleIter.contract.steps
-            (λ a b. list.ListsForGood (seen_as zip_longest.zip_longest_parts
-            (zip_longest.zip_longest_contract Self.contract
-            I.IntoFallibleIter.contract)).steps result (zip_longest.zipped_longest a b)) }
+            (λ a b. list.ListsForGood (seen_as pad_using.zip_longest_parts
+            (pad_using.zip_longest_contract Self.contract
+            I.IntoFallibleIter.contract)).steps result (pad_using.zipped_longest a b)) }
     {
         ZipLongest::new(self.fuse(), other.into_fallible_iter().fuse())
     }
@@ -1452,23 +1419,23 @@ pub trait FallibleItertools: FallibleIterator {
         F: FnMut() -> Self::Error,
         requires { IsCallable (call_of_none F.FnMut) (λ g _. F.pre g) (λ _. ⊤) unequal }
         ensures begun { BothBegun self I.into_gives other (None, unequal)
-            (zip_eq.zip_eq_parts result) }
-        ensures closure { sides.asked_closure (zip_eq.zip_eq_parts result) ≡ unequal }
+            (pad_using.zip_eq_parts result) }
+        ensures closure { sides.asked_closure (pad_using.zip_eq_parts result) ≡ unequal }
         ensures bounded { (a b k : ℕ) → Self.contract.bound self a
             → I.IntoFallibleIter.contract.bound
-            (sides.right_source (zip_eq.zip_eq_parts result)) b → a + b ≤ k
-            → AtMost (seen_as zip_eq.zip_eq_parts (zip_eq.zip_eq_contract Self.contract
+            (sides.right_source (pad_using.zip_eq_parts result)) b → a + b ≤ k
+            → AtMost (seen_as pad_using.zip_eq_parts (pad_using.zip_eq_contract Self.contract
             I.IntoFallibleIter.contract F.FnMut)) result k }
         ensures lists { (e : Self.Error) → list.Acts (call_of_none F.FnMut) unequal (λ _. e)
             → OverBoth Self.contract.steps self I.into_gives other
             I.IntoFallibleIter.contract.steps
-            (λ a b. list.Lists (seen_as zip_eq.zip_eq_parts (zip_eq.zip_eq_contract Self.contract
-            I.IntoFallibleIter.contract F.FnMut)).steps result (zip_eq.zipped_equal e a b)) }
+            (λ a b. list.Lists (seen_as pad_using.zip_eq_parts (pad_using.zip_eq_contract Self.contract
+            I.IntoFallibleIter.contract F.FnMut)).steps result (pad_using.zipped_equal e a b)) }
         ensures for_good { (e : Self.Error) → list.Acts (call_of_none F.FnMut) unequal (λ _. e)
             → OverBoth Self.contract.steps self I.into_gives other
             I.IntoFallibleIter.contract.steps
-            (λ a b. list.ListsForGood (seen_as zip_eq.zip_eq_parts (zip_eq.zip_eq_contract Self.contract
-            I.IntoFallibleIter.contract F.FnMut)).steps result (zip_eq.zipped_equal e a b)) }
+            (λ a b. list.ListsForGood (seen_as pad_using.zip_eq_parts (pad_using.zip_eq_contract Self.contract
+            I.IntoFallibleIter.contract F.FnMut)).steps result (pad_using.zipped_equal e a b)) }
     {
         ZipEq::new(self.fuse(), other.into_fallible_iter().fuse(), unequal)
     }
@@ -2055,7 +2022,7 @@ pub trait FallibleItertools: FallibleIterator {
     {
         let mut it = Keyed { it: self, f: key };
         let mut state = (HashMap::new(alloc), f);
-        let answer = it.drive(&mut state, &crate::fold_by_key::FoldByKeyTurn { init });
+        let answer = it.drive(&mut state, &crate::keyed::FoldByKeyTurn { init });
         let (folds, _) = state;
         match answer {
             Ok(None) => Ok(folds),
@@ -2291,7 +2258,7 @@ pub trait FallibleItertools: FallibleIterator {
         ensures contents { OverList Self.contract.steps self
             (λ l. ContentsOf (HasItemsInOrder Self.Item.cmp) l result) }
     {
-        sorted_unstable::items_in_order(self.collect(alloc))
+        sorted::items_in_order(self.collect(alloc))
     }
 
     /// Returns the items in a `Vec`, in the order that the closure returns for each two. Items that it finds equal may come in any order. If it compares as no order does, it returns the items in any order, each of them once; in Rust it may panic.
@@ -2338,7 +2305,7 @@ pub trait FallibleItertools: FallibleIterator {
         ensures failure { OverList Self.contract.steps self
             (λ l. (e : Self.Error) → result ≡ Err (Source e) → list.collected l ≡ Err e) }
     {
-        sorted_unstable::items_in_order_by(self.collect(alloc), f)
+        sorted::items_in_order_by(self.collect(alloc), f)
     }
 
     /// Returns the items in a `Vec`, in the order of the keys that the closure returns for them. Items with equal keys may come in any order. If the closure returns other keys for an item from call to call, it returns the items in any order, each of them once; in Rust it may panic.
@@ -2382,7 +2349,7 @@ pub trait FallibleItertools: FallibleIterator {
         ensures failure { OverList Self.contract.steps self
             (λ l. (e : Self.Error) → result ≡ Err (Source e) → list.collected l ≡ Err e) }
     {
-        sorted_unstable::items_in_order_by_key(self.collect(alloc), f)
+        sorted::items_in_order_by_key(self.collect(alloc), f)
     }
 
     /// Returns the items as `Display` shows them, with the separator between each two.
@@ -2455,9 +2422,9 @@ pub trait FallibleItertools: FallibleIterator {
             (λ l. ContentsOf (IsSmallestOf Self.Item.cmp k) l result) }
     {
         let mut kept = Vec::new(alloc);
-        match self.drive(&mut kept, &k_smallest::SmallestTurn { k }) {
+        match self.drive(&mut kept, &sorted::SmallestTurn { k }) {
             Ok(None) => {
-                k_smallest::cut(&mut kept, k);
+                sorted::cut(&mut kept, k);
                 Ok(kept)
             }
             Ok(Some(refused)) => Err(Fault::Memory(refused)),

@@ -5,9 +5,7 @@ use Rattle.std.specs.Borrow.{Bor}
 use Rattle.fallible_iterator.specs.Traces.{Answered, item, failure}
 use Rattle.fallible_iterator.specs.Contract.{Contract, Inverse}
 use Rattle.fallible_iterator.specs.Closures.{call_by_reference, takes_by_reference}
-use Rattle.fallible_itertools_adapters.specs.Plan.{HintPlan, Transition, Plan, calls, closure_contract, makes, none_held, passes, plan_meets}
-use Rattle.fallible_itertools_adapters.specs.Staged.{as_function, plan_does, staged}
-use Rattle.fallible_itertools_adapters.specs.Staging.{StagedTrace, ends_come, emitted_then, one_emitted}
+use Rattle.fallible_itertools_adapters.specs.Staging.{HintPlan, Transition, Plan, calls, closure_contract, makes, none_held, passes, plan_meets, as_function, plan_does, staged, StagedTrace, ends_come, emitted_then, one_emitted}
 use Rattle.fallible_itertools_adapters.specs.declared.take_while_inclusive.TakeWhileInclusive.{TakeWhileInclusive}
 use Rattle.std.proofs.Common.{refl}
 use Rattle.fallible_iterator.specs.Sound.{sound_once, as_made}

@@ -1,15 +1,20 @@
-//! The adapter that yields the positions of the items for which its closure returns true.
-ghost use Rattle.std.specs.Prelude.{Result, Option, ◌≡◌};
+// The adapters that yield positions, alone or beside their items.
+ghost use Rattle.std.specs.Prelude.{Result, Option, ◌≡◌, ⊤, None};
 ghost use Rattle.fallible_iterator.specs.Closures.{call_by_value, takes_by_value};
 ghost use Rattle.fallible_iterator.specs.Contract.{seen_as, parts_as};
+ghost use Rattle.fallible_iterator.specs.OneToOne.Enumerate.{enumerate_contract, enumerate_made, enumerate_parts};
 ghost use Rattle.fallible_iterator.specs.Laws.Contract.{lawful_seen, lawful_parts};
 ghost use Rattle.fallible_iterator.specs.Laws.OneToOne.Enumerate.{lawful_enumerate};
-ghost use Rattle.fallible_iterator.specs.OneToOne.Enumerate.{enumerate_contract, enumerate_made, enumerate_parts};
-ghost use Rattle.fallible_itertools_adapters.specs.Positions.{positions_contract, positions_outcome, positions_made, positions_parts};
-ghost use Rattle.fallible_itertools_adapters.specs.Laws.Positions.{lawful_positions};
+ghost use Rattle.fallible_itertools_adapters.specs.Positions.{positions_contract, positions_outcome, positions_made, positions_parts, position_before_item, position_before_stop, position_plan, position_stops, positioned_last, with_position_contract, with_position_made, with_position_parts};
+ghost use Rattle.fallible_itertools_adapters.specs.Staging.{calls_nothing, held_one, plan_item, plan_stop, stop_comes};
+ghost use Rattle.fallible_itertools_adapters.specs.Laws.Positions.{is_stage_position, lawful_positions, lawful_with_position};
 
-use fallible_iterator::extending::{FirstTurn, Outcome, Pass, drive_passing};
+use crate::staging::{
+    AnswerAndDue, Emitted, Stage, Stop, drive_stage, let_go, next_stage, one, stop_answer,
+};
+use fallible_iterator::extending::{FirstTurn, Outcome, Pass, drive_passing, sum};
 use fallible_iterator::{Enumerate, FallibleIterator, Turn};
+use std::mem::replace;
 
 /// The positions of the items for which the closure returns true. Each item counts, also one on which the closure fails; its failure is yielded.
 #[derive(Clone, Debug, Drop)]
@@ -83,5 +88,180 @@ impl<X, E, F: FnMut(X) -> Result<bool, E>> Pass<F, (usize, X), E> for PositionsP
             Ok(false) => Outcome::LeftOut,
             Err(e) => Outcome::Failure(e),
         }
+    }
+}
+
+/// Where an item stands among the items between two stops. A stop is `Ok(None)` or a failure.
+#[derive(Clone, Copy, Debug, PartialEq, Eq)]
+pub enum Position {
+    /// the first of several items
+    First,
+    /// neither the first nor the last
+    Middle,
+    /// the last of several items
+    Last,
+    /// the only item
+    Only,
+}
+
+/// The items, each with its [`Position`]. An item is buffered until another one comes, or a stop: `Ok(None)` or a failure, which the next call returns.
+#[derive(Clone, Debug, Drop)]
+pub struct WithPosition<I: FallibleIterator> {
+    pub(crate) it: I,
+    // the item that wasn't yielded yet, and whether an item since the last stop came before it; and the stop that is due: `Ok(None)`, or a failure
+    pub(crate) stage: ((Option<(bool, I::Item)>, ()), Option<Stop<I::Error>>),
+}
+
+impl<I: FallibleIterator> WithPosition<I> {
+    /// Creates it. It draws nothing.
+    #[inline(always)]
+    pub fn new(it: I) -> WithPosition<I>
+        ensures { with_position_parts result ≡ (it, ((None, tt), None)) }
+    {
+        WithPosition {
+            it,
+            stage: ((None, ()), None),
+        }
+    }
+}
+
+impl<I: FallibleIterator> FallibleIterator for WithPosition<I>
+where
+    I::Item: Drop,
+    I::Error: Drop,
+{
+    type Item = (Position, I::Item);
+
+    type Error = I::Error;
+
+    ghost contract = { parts_as with_position_parts (with_position_contract I.contract) };
+
+    /// Returns the stop that is due, without a draw. Otherwise it draws once if an item is buffered, and otherwise twice, or up to a stop.
+    fn next(&mut self) -> Result<Option<(Position, I::Item)>, I::Error> {
+        match self.stage.1.take() {
+            Some(stop) => stop_answer(stop),
+            None => match &self.stage.0.0 {
+                Some(_) => next_stage(&mut self.it, &mut self.stage, &PositionStage),
+                None => match self.it.draw() {
+                    Ok(Some(first)) => {
+                        self.stage.0.0 = Some((false, first));
+                        next_stage(&mut self.it, &mut self.stage, &PositionStage)
+                    }
+                    Ok(None) => Ok(None),
+                    Err(e) => Err(e),
+                },
+            },
+        }
+    }
+
+    fn size_hint(&self) -> (usize, Option<usize>) {
+        match self.stage.1 {
+            Some(None) => (0, Some(0)),
+            _ => {
+                let held = if self.stage.0.0.is_some() { 1 } else { 0 };
+                sum(self.it.size_hint(), (held, Some(held)))
+            }
+        }
+    }
+
+    fn drive<C, R, K: Turn<C, (Position, I::Item), R>>(
+        &mut self,
+        state: &mut C,
+        turn: &K,
+    ) -> Result<Option<R>, I::Error> {
+        drive_stage(&mut self.it, &mut self.stage, &PositionStage, state, turn)
+    }
+
+    ghost lawful = { lawful_parts with_position_made (lawful_with_position I.lawful) };
+}
+
+// An item is buffered until it is known what comes after it.
+#[derive(Drop)]
+struct PositionStage;
+
+impl<X: Drop, E> Stage<(Option<(bool, X)>, ()), X, E> for PositionStage {
+    type Kept = (Position, X);
+
+    type Due = Stop<E>;
+
+    ghost comes = { λ _ stop. stop_comes stop };
+
+    ghost can_meet = { λ _ p x. ⊤ };
+
+    ghost items = { λ _ p x emitted q. plan_item calls_nothing position_plan position_stops p x emitted q };
+
+    ghost stops = { λ _ p stop emitted q. plan_stop calls_nothing position_plan position_stops p stop emitted
+        q };
+
+    ghost most = { λ _. 1 };
+
+    ghost held = { λ _ p. held_one p.0 };
+
+    #[inline(always)]
+    fn on_item(
+        &self,
+        p: &mut (Option<(bool, X)>, ()),
+        item: X,
+    ) -> Emitted<(Position, X), Stop<E>, E>
+        ensures { plan_item calls_nothing position_plan position_stops p.old item result p.new }
+    {
+        let is_later = p.0.is_some();
+        match replace(&mut p.0, Some((is_later, item))) {
+            Some((was_later, before)) => one(Ok(Some((first_or_middle(was_later), before)))),
+            None => None,
+        }
+    }
+
+    #[inline(always)]
+    fn on_stop(
+        &self,
+        p: &mut (Option<(bool, X)>, ()),
+        stop: Stop<E>,
+    ) -> Emitted<(Position, X), Stop<E>, E>
+        ensures { plan_stop calls_nothing position_plan position_stops p.old stop result p.new }
+    {
+        let_go(placed_last(p.0.take()), stop)
+    }
+
+    #[inline(always)]
+    fn answer_due(&self, due: Stop<E>) -> AnswerAndDue<(Position, X), Stop<E>, E> {
+        (stop_answer(due), None)
+    }
+
+    ghost is_stage = { λ _. is_stage_position };
+}
+
+// The buffered item with its position before a stop.
+#[inline(always)]
+fn placed_last<X>(held: Option<(bool, X)>) -> Option<(Position, X)>
+    ensures { result ≡ positioned_last held }
+{
+    match held {
+        Some((is_later, last)) => Some((only_or_last(is_later), last)),
+        None => None,
+    }
+}
+
+// The position of an item that another item comes after.
+#[inline(always)]
+fn first_or_middle(is_later: bool) -> Position
+    ensures { result ≡ position_before_item is_later }
+{
+    if is_later {
+        Position::Middle
+    } else {
+        Position::First
+    }
+}
+
+// The position of an item that a stop comes after.
+#[inline(always)]
+fn only_or_last(is_later: bool) -> Position
+    ensures { result ≡ position_before_stop is_later }
+{
+    if is_later {
+        Position::Last
+    } else {
+        Position::Only
     }
 }

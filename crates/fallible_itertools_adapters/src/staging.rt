@@ -2,8 +2,7 @@
 ghost use Rattle.std.specs.Prelude.{◌≡◌, ℕ, if◌then◌else◌, Option, Result, Some, None, Ok, Err};
 ghost use Rattle.fallible_iterator.specs.Folds.{CallableDriving, Driven, TurnThrough, beside, beside_names};
 ghost use Rattle.fallible_iterator.specs.Passing.{IfItem};
-ghost use Rattle.fallible_itertools_adapters.specs.BeforeStop.{before_stop, held_hint};
-ghost use Rattle.fallible_itertools_adapters.specs.Staging.{DrawsUpTo, DueTakes, DueTold, IsStage, EmittedTakes, EmittedTold, Met, MetTakes, PassesNoneOver, StageTurns, TakesAll, Told, due_comes, due_left, emitted_then, one_emitted, stage_meets, stage_step, stop_answer};
+ghost use Rattle.fallible_itertools_adapters.specs.Staging.{before_stop, held_hint, DrawsUpTo, DueTakes, DueTold, IsStage, EmittedTakes, EmittedTold, Met, MetTakes, PassesNoneOver, StageTurns, TakesAll, Told, due_comes, due_left, emitted_then, one_emitted, stage_meets, stage_step, stop_answer};
 ghost use Rattle.std.specs.declared.ops.ControlFlow.TheVariants.{Break};
 
 use fallible_iterator::extending::Beside;

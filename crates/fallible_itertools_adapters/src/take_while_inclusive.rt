@@ -4,8 +4,7 @@ ghost use Rattle.fallible_iterator.specs.Closures.{call_by_reference, takes_by_r
 ghost use Rattle.fallible_iterator.specs.Contract.{parts_as};
 ghost use Rattle.fallible_iterator.specs.Laws.Contract.{lawful_parts};
 ghost use Rattle.fallible_itertools_adapters.specs.Laws.TakeWhileInclusive.{is_stage_inclusive, lawful_inclusive};
-ghost use Rattle.fallible_itertools_adapters.specs.Plan.{none_held, passes, plan_item, plan_stop, plan_takes};
-ghost use Rattle.fallible_itertools_adapters.specs.Staging.{ends_come};
+ghost use Rattle.fallible_itertools_adapters.specs.Staging.{ends_come, none_held, passes, plan_item, plan_stop, plan_takes};
 ghost use Rattle.fallible_itertools_adapters.specs.TakeWhileInclusive.{inclusive_contract, inclusive_made, inclusive_parts, inclusive_plan};
 
 use crate::staging::{

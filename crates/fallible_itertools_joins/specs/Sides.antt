@@ -16,8 +16,8 @@ use Rattle.fallible_iterator.specs.Fuse.{Fuse}
 use Rattle.std.specs.declared.ops.ControlFlow.{ControlFlow}
 use Rattle.std.specs.declared.ops.ControlFlow.TheVariants.{Continue, Break}
 use Rattle.fallible_itertools_joins.specs.declared.sides.JoinSide.{JoinSide}
-use Rattle.fallible_itertools_joins.specs.declared.zip_longest.EitherOrBoth.{EitherOrBoth}
-use Rattle.fallible_itertools_joins.specs.declared.zip_longest.EitherOrBoth.TheVariants.{Both, Left, Right}
+use Rattle.fallible_itertools_joins.specs.declared.zip.EitherOrBoth.{EitherOrBoth}
+use Rattle.fallible_itertools_joins.specs.declared.zip.EitherOrBoth.TheVariants.{Both, Left, Right}
 
 -- the contract of a fused source
 abbrev pub fused_contract : {S A E : Type 0} → Contract S A E → Contract (Fuse S) A E

@@ -8,7 +8,7 @@ ghost use Rattle.fallible_itertools_joins.specs.Laws.KMerge.{lawful_kmerge};
 ghost use Rattle.fallible_itertools_joins.specs.Laws.Sides.{lawful_fused};
 ghost use Rattle.fallible_itertools_joins.specs.Sides.{fused_contract};
 
-use crate::merge_tree::{MergeTree, give};
+use crate::kmerge_by::{MergeTree, give};
 use fallible_iterator::{FallibleIterator, Fuse};
 
 /// The items of many sources, each fused. Of two items the lesser goes first, and of equal ones the earlier source's. A failure of a source is yielded, and loses nothing that is buffered.

@@ -7,7 +7,7 @@ use Rattle.fallible_pg.specs.Listed.{messages_at, messages_in, messages_of, HasB
 use Rattle.fallible_pg.specs.Messages.{message_bytes}
 use Rattle.fallible_pg.specs.Reading.{messages_parts, message_step, TellsWhy}
 use Rattle.fallible_pg.specs.Sizes.{first_size}
-use Rattle.fallible_pg.proofs.ListLemmas.{ListedMessages, messages_of-none, messages_of-step, messages_of-message, messages_of-damage}
+use Rattle.fallible_pg.proofs.Lemmas.List.{ListedMessages, messages_of-none, messages_of-step, messages_of-message, messages_of-damage}
 use Rattle.fallible_pg.proofs.TurnLaw.{known_left, consumes_given, none_left, size_broken, some_broken, some_came}
 use Rattle.fallible_pg.specs.declared.fault.Damage.{Damage}
 use Rattle.fallible_pg.specs.declared.fault.PgFault.{PgFault}

@@ -12,7 +12,7 @@ use Rattle.fallible_pg.specs.Sizes.{IsMessage}
 use Rattle.fallible_pg.specs.Text.{Form}
 use Rattle.fallible_pg.specs.Turns.{Turn, refused, damaged, turn_by, turns_of}
 use Rattle.fallible_pg.proofs.TurnLaw.{known_left, consumes_given, turns_last, turns_ended, turns_broken}
-use Rattle.fallible_pg.proofs.TurnLemmas.{turns_of-message}
+use Rattle.fallible_pg.proofs.Lemmas.Turn.{turns_of-message}
 use Rattle.fallible_pg.specs.declared.kind.Kind.{Kind}
 use Rattle.fallible_pg.specs.declared.fault.Damage.{Damage}
 use Rattle.fallible_pg.specs.declared.fault.Damage.TheVariants as What

@@ -11,9 +11,9 @@ use Rattle.fallible_pg.specs.Progress.{Reached, came, reached_by}
 use Rattle.fallible_pg.specs.Rows.{rows_parts, rows_step}
 use Rattle.fallible_pg.specs.Sizes.{first_size}
 use Rattle.fallible_pg.specs.Turns.{Turn, damaged, turn_by, turns_at_end, turns_of, AnswersTurn, GivesTurns}
-use Rattle.fallible_pg.proofs.DrawLemmas.{draws_bytes_of}
-use Rattle.fallible_pg.proofs.SizeLemmas.{has_size, first_size-length}
-use Rattle.fallible_pg.proofs.TurnLemmas.{turns_of-message, turns_of-damage, turns_of-none, turns_of-skipped}
+use Rattle.fallible_pg.proofs.Lemmas.Draw.{draws_bytes_of}
+use Rattle.fallible_pg.proofs.Lemmas.Size.{has_size, first_size-length}
+use Rattle.fallible_pg.proofs.Lemmas.Turn.{turns_of-message, turns_of-damage, turns_of-none, turns_of-skipped}
 use Rattle.fallible_pg.specs.declared.fault.Damage.{Damage}
 use Rattle.fallible_pg.specs.declared.fault.Damage.TheVariants as What
 use Rattle.fallible_pg.specs.declared.fault.PgFault.{PgFault}

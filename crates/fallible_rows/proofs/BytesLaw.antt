@@ -14,7 +14,7 @@ use Rattle.program_io.specs.Bytes.{GivesBytes}
 use Rattle.fallible_rows.specs.RowTraces.{row_answer, row_answers, IsOneRow, IsClosed, row_step, ReadsRows, RowsTrace, IsPrefixOfRowAnswers, NeverFailsToRead, BeginsWith, CanGiveAll}
 use Rattle.fallible_rows.specs.Laws.RowTraces.{run_of_reads_rows}
 use Rattle.fallible_rows.specs.Laws.Rows.{not_newline, rows-closed}
-use Rattle.fallible_rows.proofs.PrefixLemmas.{consumes_given, consumes_to_end}
+use Rattle.fallible_rows.proofs.Lemmas.Prefix.{consumes_given, consumes_to_end}
 use Rattle.fallible_rows.specs.declared.fault.RowFault.{RowFault}
 use Rattle.fallible_rows.specs.declared.fault.RowFault.TheVariants.{Read}
 use Rattle.fallible_rows.specs.declared.rows.Ahead.{Ahead}

@@ -1,9 +1,3 @@
-mod BoundLemmas
-pub mod BytesLaw
-pub mod ChainLemmas
-pub mod FailingLemmas
 mod ListsLaw
-pub mod PrefixLemmas
-pub mod ReportLemmas
-pub mod RowLemmas
-pub mod TraceLemmas
+pub mod BytesLaw
+pub mod Lemmas

@@ -13,7 +13,7 @@ use Rattle.program_io.specs.Bytes.{NoReadFails}
 use Rattle.fallible_rows.specs.Rows.{rows, row_number}
 use Rattle.fallible_rows.specs.RowTraces.{rows_parts, begun, told_place, answer_of_number, row_result, row_results, DrawsRow, row_step, row_step_where_read, ListsWhereRead, rows_contract}
 use Rattle.fallible_rows.specs.Laws.Rows.{rows-none, rows-row, rows-one}
-use Rattle.fallible_rows.proofs.PrefixLemmas.{consumes_given, consumes_to_end}
+use Rattle.fallible_rows.proofs.Lemmas.Prefix.{consumes_given, consumes_to_end}
 use Rattle.fallible_rows.specs.declared.fault.RowFault.{RowFault}
 use Rattle.fallible_rows.specs.declared.fault.RowFault.TheVariants.{Row, Read}
 use Rattle.fallible_rows.specs.declared.rows.Ahead.{Ahead}

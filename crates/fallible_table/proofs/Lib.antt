@@ -1,3 +1,1 @@
-mod ReadingLemmas
-mod TableLemmas
-mod TotalsLemmas
+mod Lemmas

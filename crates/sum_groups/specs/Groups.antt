@@ -3,8 +3,7 @@ use Rattle.std.specs.Prelude.{◌≡◌, ℕ, ◌+◌, ◌%◌, ◌^◌, Bool, �
 use Rattle.std.specs.List.{before_first, after_first, position_or_len}
 use Rattle.std.specs.Str.Lines.{lines}
 use Rattle.fallible_iterator.specs.Lists.{collected, items, mapped, scanned}
-use Rattle.fallible_itertools.specs.ChunkBy.{chunked_by}
-use Rattle.fallible_itertools.specs.Chunks.{chunked}
+use Rattle.fallible_itertools.specs.Chunks.{chunked, chunked_by}
 use Rattle.fallible_itertools.specs.CheckedSum.{sum_below, totalled}
 use Rattle.program_io.specs.Numbers.{number_of}
 use Rattle.std.specs.declared.alloc.AllocError.{AllocError}

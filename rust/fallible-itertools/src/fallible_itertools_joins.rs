@@ -6,23 +6,13 @@ pub mod kmerge;
 #[cfg(feature = "alloc")]
 pub mod kmerge_by;
 pub mod merge;
-pub mod merge_by;
-pub mod merge_join_by;
-#[cfg(feature = "alloc")]
-pub mod merge_tree;
-pub mod pad_using;
 mod sides;
-pub mod zip_eq;
-pub mod zip_longest;
+pub mod zip;
 
 pub use interleave::Interleave;
 #[cfg(feature = "alloc")]
 pub use kmerge::KMerge;
 #[cfg(feature = "alloc")]
 pub use kmerge_by::KMergeBy;
-pub use merge::Merge;
-pub use merge_by::MergeBy;
-pub use merge_join_by::MergeJoinBy;
-pub use pad_using::PadUsing;
-pub use zip_eq::ZipEq;
-pub use zip_longest::{EitherOrBoth, ZipLongest};
+pub use merge::{Merge, MergeBy, MergeJoinBy};
+pub use zip::{EitherOrBoth, PadUsing, ZipEq, ZipLongest};

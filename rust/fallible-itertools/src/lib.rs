@@ -21,39 +21,22 @@ extern crate std;
 mod all_unique;
 mod base;
 mod checked_sum;
-mod cmp_by;
-mod converting;
-#[cfg(feature = "std")]
-mod counts;
 mod double_ended;
 mod equal;
 mod errors;
-mod exactly_one;
 mod fallible_itertools_adapters;
 mod fallible_itertools_joins;
-mod find_or_last;
-mod find_position;
-#[cfg(feature = "std")]
-mod fold_by_key;
+mod find;
 mod fold_while;
-#[cfg(feature = "std")]
-mod group_map;
 mod is_sorted;
 #[cfg(feature = "alloc")]
 mod join;
-#[cfg(feature = "alloc")]
-mod k_smallest;
 #[cfg(feature = "std")]
 mod keyed;
 mod minmax;
-mod minmax_by;
-mod parted;
-mod partition_map;
-mod position_best;
+mod partition;
 #[cfg(feature = "alloc")]
 mod sorted;
-#[cfg(feature = "alloc")]
-mod sorted_unstable;
 #[cfg(feature = "alloc")]
 mod tail;
 mod traits;
@@ -79,8 +62,8 @@ pub use crate::fallible_itertools_joins::{
 };
 pub use checked_sum::CheckedTotal;
 pub use double_ended::DoubleEndedFallibleItertools;
-pub use exactly_one::NotOne;
+pub use find::NotOne;
 pub use fold_while::FoldWhile;
 pub use minmax::MinMaxResult;
-pub use partition_map::Either;
+pub use partition::Either;
 pub use traits::FallibleItertools;

@@ -12,12 +12,9 @@ use crate::base::{
     answer_or_none, found, ordered,
 };
 use crate::checked_sum::{CheckedTotal, ProductTurn, SumTurn, total_or_none};
-use crate::cmp_by::{CmpTurn, EqTurn, compare_by};
-use crate::converting::converted;
-#[cfg(feature = "std")]
-use crate::counts::Tally;
-use crate::equal::{ContainsTurn, EqualTurn, first_or_both, whether_stopped};
-use crate::exactly_one::NotOne;
+use crate::equal::{
+    CmpTurn, ContainsTurn, EqTurn, EqualTurn, compare_by, first_or_both, whether_stopped,
+};
 #[cfg(feature = "alloc")]
 use crate::fallible_itertools_adapters::{ChunkBy, Chunks};
 use crate::fallible_itertools_adapters::{
@@ -30,23 +27,20 @@ use crate::fallible_itertools_adapters::{Duplicates, Unique, UniqueBy};
 use crate::fallible_itertools_joins::{
     Interleave, Merge, MergeBy, MergeJoinBy, PadUsing, ZipEq, ZipLongest,
 };
-use crate::find_or_last::{FindFirstTurn, FindLastTurn};
-use crate::find_position::FindPositionTurn;
+use crate::find::{FindFirstTurn, FindLastTurn, FindPositionTurn, NotOne, converted};
 use crate::fold_while::{FoldWhile, FoldWhileTurn, while_or_stop};
-#[cfg(feature = "std")]
-use crate::group_map::GroupMap;
 use crate::is_sorted::{IsSortedByKeyTurn, IsSortedByTurn, IsSortedTurn};
 #[cfg(feature = "alloc")]
 use crate::join::JoinTurn;
 #[cfg(feature = "std")]
-use crate::keyed::Keyed;
-use crate::minmax::{MinMaxResult, MinMaxTurn, lesser_first};
-use crate::minmax_by::{find_both_by, find_both_by_key};
-use crate::parted::Parted;
-use crate::partition_map::Either;
-use crate::position_best::{first_is_less, place_alone};
+use crate::keyed::{GroupMap, Keyed, Tally};
+use crate::minmax::{
+    MinMaxResult, MinMaxTurn, find_both_by, find_both_by_key, first_is_less, lesser_first,
+    place_alone,
+};
+use crate::partition::{Either, Parted};
 #[cfg(feature = "alloc")]
-use crate::{k_smallest, sorted, sorted_unstable, tail};
+use crate::{sorted, tail};
 #[cfg(feature = "alloc")]
 use alloc::collections::VecDeque;
 #[cfg(feature = "alloc")]
@@ -131,16 +125,16 @@ pub trait FallibleItertools: FallibleIterator + Sized {
     /// ```text
     /// requires callable { IsCallable (call_by_reference F.FnMut) (takes_by_reference F.FnMut)
     ///     (Self.contract.may_give self) f }
-    /// ensures parts { dedup_by_key.dedup_by_key_parts result ≡ (self, ((None, f), None)) }
-    /// ensures callable { plan_can (call_by_reference F.FnMut) (dedup_by_key.dedup_key_plan K.eq)
-    ///     dedup_by_key.dedup_key_stops (takes_by_reference F.FnMut) (MayMeet Self.contract self)
+    /// ensures parts { coalesce.dedup_by_key_parts result ≡ (self, ((None, f), None)) }
+    /// ensures callable { plan_can (call_by_reference F.FnMut) (coalesce.dedup_key_plan K.eq)
+    ///     coalesce.dedup_key_stops (takes_by_reference F.FnMut) (MayMeet Self.contract self)
     ///     (None, f) }
     /// ensures lists { (h : Self.Item → Result K Self.Error)
     ///     (l : List (Result Self.Item Self.Error)) → list.Acts (call_by_reference F.FnMut) f h
     ///     → list.Lists Self.contract.steps self l
-    ///     → list.Lists (seen_as dedup_by_key.dedup_by_key_parts
-    ///     (dedup_by_key.dedup_by_key_contract K.eq F.FnMut Self.contract)).steps result
-    ///     (dedup_by_key.deduped_by_key K.eq h l) }
+    ///     → list.Lists (seen_as coalesce.dedup_by_key_parts
+    ///     (coalesce.dedup_by_key_contract K.eq F.FnMut Self.contract)).steps result
+    ///     (coalesce.deduped_by_key K.eq h l) }
     /// ```
     /// </details>
     fn dedup_by_key<K, F>(self, f: F) -> DedupByKey<Self, K, F>
@@ -1539,31 +1533,31 @@ pub trait FallibleItertools: FallibleIterator + Sized {
     ///
     /// ```text
     /// requires { (right : I.IntoFallibleIter) → I.into_gives other right
-    ///     → IsCallable (sides.call_on_two (join_by.call_at_both F.FnMut))
-    ///     (λ g z. join_by.takes_at_both F.FnMut g z.0 z.1) (λ z. Self.contract.may_give self z.0
+    ///     → IsCallable (sides.call_on_two (merge_by.call_at_both F.FnMut))
+    ///     (λ g z. merge_by.takes_at_both F.FnMut g z.0 z.1) (λ z. Self.contract.may_give self z.0
     ///     × I.IntoFallibleIter.contract.may_give right z.1) f }
     /// ensures begun { BothBegun self I.into_gives other ((None, None), f)
-    ///     (join_by.merge_join_by_parts result) }
-    /// ensures closure { sides.asked_closure (join_by.merge_join_by_parts result) ≡ f }
+    ///     (merge_by.merge_join_by_parts result) }
+    /// ensures closure { sides.asked_closure (merge_by.merge_join_by_parts result) ≡ f }
     /// ensures bounded { (a b k : ℕ) → Self.contract.bound self a
     ///     → I.IntoFallibleIter.contract.bound
-    ///     (sides.right_source (join_by.merge_join_by_parts result)) b → a + b ≤ k
-    ///     → AtMost (seen_as join_by.merge_join_by_parts (join_by.merge_join_by_contract
+    ///     (sides.right_source (merge_by.merge_join_by_parts result)) b → a + b ≤ k
+    ///     → AtMost (seen_as merge_by.merge_join_by_parts (merge_by.merge_join_by_contract
     ///     Self.contract I.IntoFallibleIter.contract F.FnMut)) result k }
     /// ensures lists { (h : Self.Item → I.Item → Result Ordering Self.Error)
-    ///     → list.ActsWith (join_by.call_at_both F.FnMut) f h
+    ///     → list.ActsWith (merge_by.call_at_both F.FnMut) f h
     ///     → OverBoth Self.contract.steps self I.into_gives other
     ///     I.IntoFallibleIter.contract.steps
-    ///     (λ a b. list.Lists (seen_as join_by.merge_join_by_parts
-    ///     (join_by.merge_join_by_contract Self.contract
-    ///     I.IntoFallibleIter.contract F.FnMut)).steps result (join_by.merge_joined h a b)) }
+    ///     (λ a b. list.Lists (seen_as merge_by.merge_join_by_parts
+    ///     (merge_by.merge_join_by_contract Self.contract
+    ///     I.IntoFallibleIter.contract F.FnMut)).steps result (merge_by.merge_joined h a b)) }
     /// ensures for_good { (h : Self.Item → I.Item → Result Ordering Self.Error)
-    ///     → list.ActsWith (join_by.call_at_both F.FnMut) f h
+    ///     → list.ActsWith (merge_by.call_at_both F.FnMut) f h
     ///     → OverBoth Self.contract.steps self I.into_gives other
     ///     I.IntoFallibleIter.contract.steps
-    ///     (λ a b. list.ListsForGood (seen_as join_by.merge_join_by_parts
-    ///     (join_by.merge_join_by_contract Self.contract
-    ///     I.IntoFallibleIter.contract F.FnMut)).steps result (join_by.merge_joined h a b)) }
+    ///     (λ a b. list.ListsForGood (seen_as merge_by.merge_join_by_parts
+    ///     (merge_by.merge_join_by_contract Self.contract
+    ///     I.IntoFallibleIter.contract F.FnMut)).steps result (merge_by.merge_joined h a b)) }
     /// ```
     /// </details>
     fn merge_join_by<I, F>(self, other: I, f: F) -> MergeJoinBy<Self, I::IntoFallibleIter, F>
@@ -1596,22 +1590,22 @@ pub trait FallibleItertools: FallibleIterator + Sized {
     ///
     /// ```text
     /// ensures begun { BothBegun self I.into_gives other None
-    ///     (zip_longest.zip_longest_parts result) }
+    ///     (pad_using.zip_longest_parts result) }
     /// ensures bounded { (a b k : ℕ) → Self.contract.bound self a
     ///     → I.IntoFallibleIter.contract.bound
-    ///     (sides.right_source (zip_longest.zip_longest_parts result)) b → a + b ≤ k
-    ///     → AtMost (seen_as zip_longest.zip_longest_parts
-    ///     (zip_longest.zip_longest_contract Self.contract I.IntoFallibleIter.contract)) result k }
+    ///     (sides.right_source (pad_using.zip_longest_parts result)) b → a + b ≤ k
+    ///     → AtMost (seen_as pad_using.zip_longest_parts
+    ///     (pad_using.zip_longest_contract Self.contract I.IntoFallibleIter.contract)) result k }
     /// ensures lists { OverBoth Self.contract.steps self I.into_gives other
     ///     I.IntoFallibleIter.contract.steps
-    ///     (λ a b. list.Lists (seen_as zip_longest.zip_longest_parts
-    ///     (zip_longest.zip_longest_contract Self.contract
-    ///     I.IntoFallibleIter.contract)).steps result (zip_longest.zipped_longest a b)) }
+    ///     (λ a b. list.Lists (seen_as pad_using.zip_longest_parts
+    ///     (pad_using.zip_longest_contract Self.contract
+    ///     I.IntoFallibleIter.contract)).steps result (pad_using.zipped_longest a b)) }
     /// ensures for_good { OverBoth Self.contract.steps self I.into_gives other
     ///     I.IntoFallibleIter.contract.steps
-    ///     (λ a b. list.ListsForGood (seen_as zip_longest.zip_longest_parts
-    ///     (zip_longest.zip_longest_contract Self.contract
-    ///     I.IntoFallibleIter.contract)).steps result (zip_longest.zipped_longest a b)) }
+    ///     (λ a b. list.ListsForGood (seen_as pad_using.zip_longest_parts
+    ///     (pad_using.zip_longest_contract Self.contract
+    ///     I.IntoFallibleIter.contract)).steps result (pad_using.zipped_longest a b)) }
     /// ```
     /// </details>
     fn zip_longest<I>(self, other: I) -> ZipLongest<Self, I::IntoFallibleIter>
@@ -1643,23 +1637,23 @@ pub trait FallibleItertools: FallibleIterator + Sized {
     /// ```text
     /// requires { IsCallable (call_of_none F.FnMut) (λ g _. F.pre g) (λ _. ⊤) unequal }
     /// ensures begun { BothBegun self I.into_gives other (None, unequal)
-    ///     (zip_eq.zip_eq_parts result) }
-    /// ensures closure { sides.asked_closure (zip_eq.zip_eq_parts result) ≡ unequal }
+    ///     (pad_using.zip_eq_parts result) }
+    /// ensures closure { sides.asked_closure (pad_using.zip_eq_parts result) ≡ unequal }
     /// ensures bounded { (a b k : ℕ) → Self.contract.bound self a
     ///     → I.IntoFallibleIter.contract.bound
-    ///     (sides.right_source (zip_eq.zip_eq_parts result)) b → a + b ≤ k
-    ///     → AtMost (seen_as zip_eq.zip_eq_parts (zip_eq.zip_eq_contract Self.contract
+    ///     (sides.right_source (pad_using.zip_eq_parts result)) b → a + b ≤ k
+    ///     → AtMost (seen_as pad_using.zip_eq_parts (pad_using.zip_eq_contract Self.contract
     ///     I.IntoFallibleIter.contract F.FnMut)) result k }
     /// ensures lists { (e : Self.Error) → list.Acts (call_of_none F.FnMut) unequal (λ _. e)
     ///     → OverBoth Self.contract.steps self I.into_gives other
     ///     I.IntoFallibleIter.contract.steps
-    ///     (λ a b. list.Lists (seen_as zip_eq.zip_eq_parts (zip_eq.zip_eq_contract Self.contract
-    ///     I.IntoFallibleIter.contract F.FnMut)).steps result (zip_eq.zipped_equal e a b)) }
+    ///     (λ a b. list.Lists (seen_as pad_using.zip_eq_parts (pad_using.zip_eq_contract Self.contract
+    ///     I.IntoFallibleIter.contract F.FnMut)).steps result (pad_using.zipped_equal e a b)) }
     /// ensures for_good { (e : Self.Error) → list.Acts (call_of_none F.FnMut) unequal (λ _. e)
     ///     → OverBoth Self.contract.steps self I.into_gives other
     ///     I.IntoFallibleIter.contract.steps
-    ///     (λ a b. list.ListsForGood (seen_as zip_eq.zip_eq_parts (zip_eq.zip_eq_contract Self.contract
-    ///     I.IntoFallibleIter.contract F.FnMut)).steps result (zip_eq.zipped_equal e a b)) }
+    ///     (λ a b. list.ListsForGood (seen_as pad_using.zip_eq_parts (pad_using.zip_eq_contract Self.contract
+    ///     I.IntoFallibleIter.contract F.FnMut)).steps result (pad_using.zipped_equal e a b)) }
     /// ```
     /// </details>
     fn zip_eq<I, F>(self, other: I, unequal: F) -> ZipEq<Self, I::IntoFallibleIter, F>
@@ -2346,7 +2340,7 @@ pub trait FallibleItertools: FallibleIterator + Sized {
     {
         let mut it = Keyed { it: self, f: key };
         let mut state = (HashMap::new(), f, None);
-        let answer = it.by_turns(&mut state, &crate::fold_by_key::FoldByKeyTurn { init });
+        let answer = it.by_turns(&mut state, &crate::keyed::FoldByKeyTurn { init });
         let (folds, _, _) = state;
         match answer {
             Ok(None) => Ok(folds),
@@ -2621,7 +2615,7 @@ pub trait FallibleItertools: FallibleIterator + Sized {
     where
         Self::Item: Ord,
     {
-        sorted_unstable::items_in_order(gathered(self))
+        sorted::items_in_order(gathered(self))
     }
 
     /// Returns the items in a `Vec`, in the order that the closure returns for each two. Items that it finds equal may come in any order. If it compares as no order does, it returns the items in any order, each of them once; in Rust it may panic.
@@ -2671,7 +2665,7 @@ pub trait FallibleItertools: FallibleIterator + Sized {
     where
         F: FnMut(&Self::Item, &Self::Item) -> Ordering,
     {
-        sorted_unstable::items_in_order_by(gathered(self), f)
+        sorted::items_in_order_by(gathered(self), f)
     }
 
     /// Returns the items in a `Vec`, in the order of the keys that the closure returns for them. Items with equal keys may come in any order. If the closure returns other keys for an item from call to call, it returns the items in any order, each of them once; in Rust it may panic.
@@ -2720,7 +2714,7 @@ pub trait FallibleItertools: FallibleIterator + Sized {
         K: Ord,
         F: FnMut(&Self::Item) -> K,
     {
-        sorted_unstable::items_in_order_by_key(gathered(self), f)
+        sorted::items_in_order_by_key(gathered(self), f)
     }
 
     /// Returns the items as `Display` shows them, with the separator between each two.
@@ -2807,8 +2801,8 @@ pub trait FallibleItertools: FallibleIterator + Sized {
         Self::Item: Ord,
     {
         let mut kept = Vec::new();
-        whole(self.by_turns(&mut kept, &k_smallest::SmallestTurn { k }))?;
-        k_smallest::cut(&mut kept, k);
+        whole(self.by_turns(&mut kept, &sorted::SmallestTurn { k }))?;
+        sorted::cut(&mut kept, k);
         Ok(kept)
     }
 

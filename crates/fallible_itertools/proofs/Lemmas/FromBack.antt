@@ -18,7 +18,7 @@ use Rattle.fallible_iterator.proofs.Lemmas.Lists.Drawn.{counted_of_lists, nth_of
 use Rattle.fallible_iterator.proofs.Lemmas.Lists.Searched.{any_of_lists, found_of_lists}
 use Rattle.fallible_iterator.proofs.Lemmas.Ends.{draws_list, draws_list_runs_where_front_runs}
 use Rattle.fallible_itertools.specs.FromBack.{CountedWhere, PlacedFromBack, before_last_true, last_position_in, rest_where, rest_position}
-use Rattle.fallible_itertools.specs.UntilFailure.{rest_failure}
+use Rattle.fallible_itertools.specs.Partition.{rest_failure}
 use Rattle.fallible_iterator.proofs.Lemmas.Lists.Rest.{is_some_of_any_pick_is_answer, is_some_of_find_pick_is_answer}
 use Rattle.std.specs.declared.ops.ControlFlow.{ControlFlow}
 use Rattle.std.specs.declared.ops.ControlFlow.TheVariants.{Continue}

@@ -6,7 +6,7 @@ use Rattle.fallible_iterator.specs.Comparing.{reads_le}
 use Rattle.fallible_iterator.specs.Lists.{on_value}
 use Rattle.fallible_iterator.specs.Traces.{Answered}
 use Rattle.fallible_itertools.specs.Equal.{contained, equal_flow, equal_to_first, equal_value, first_or_both, rest_contained, rest_unequal, wanted_flow}
-use Rattle.fallible_itertools.specs.FindOrLast.{find_flow, first_kept, found_or_first, found_or_last, last_kept}
+use Rattle.fallible_itertools.specs.Find.{find_flow, first_kept, found_or_first, found_or_last, last_kept}
 use Rattle.fallible_itertools.specs.IsSorted.{in_order, in_order_by, in_order_by_key, item_flow, key_flow, pair_step, while_true}
 use Rattle.fallible_itertools.specs.Stepping.{made_by, on_flow, stepped, stop_or, stop_or_kept, stops_where, whether_stopped}
 

@@ -6,7 +6,7 @@ use Rattle.std.specs.declared.ops.ControlFlow.TheVariants.{Continue, Break}
 use Rattle.fallible_iterator.specs.Traces.{Answered, Run, item}
 use Rattle.fallible_iterator.specs.Folds.{DriveExit, Driven, goes_on}
 use Rattle.fallible_iterator.specs.Lists.{Acts, AlwaysGives, Lists}
-use Rattle.fallible_itertools_adapters.specs.Plan.{Plan, calls, makes}
+use Rattle.fallible_itertools_adapters.specs.Staging.{Plan, calls, makes}
 use Rattle.fallible_itertools.specs.Stepping.{Consumes, Flow, Made, StepTurns, consumed, made_by, on_flow, rest_stepped, stepped}
 
 -- what is made where it is known what is kept

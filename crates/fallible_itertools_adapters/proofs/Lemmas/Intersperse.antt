@@ -10,17 +10,12 @@ use Rattle.fallible_iterator.specs.Refusing.{AnswersRefusal, IsMadeOf, ListsUnti
 use Rattle.fallible_iterator.specs.Sources.FromFn.{call_of_none}
 use Rattle.fallible_iterator.proofs.Lemmas.Lists.Passing.{lists_seen}
 use Rattle.fallible_iterator.proofs.Lemmas.Refusing.{lists_until_refused_seen}
-use Rattle.fallible_itertools_adapters.specs.Intersperse.{intersperse_contract, intersperse_parts, intersperse_plan, interspersed, interspersed_by, next_separator, separator_cloned}
-use Rattle.fallible_itertools_adapters.specs.IntersperseWith.{CallsMakeShown, intersperse_with_contract, intersperse_with_parts, takes_none}
-use Rattle.fallible_itertools_adapters.specs.Plan.{passes, plan_can}
-use Rattle.fallible_itertools_adapters.specs.Staged.{before_rest, plan_does, staged}
-use Rattle.fallible_itertools_adapters.specs.Staging.{item_comes}
-use Rattle.fallible_itertools_adapters.proofs.Lemmas.Plan.{CallsOnAsked, plan_can_where_callable}
-use Rattle.fallible_itertools_adapters.proofs.Lemmas.Staged.{MakesSame, gives_plan, gives_plan_until_refused, made_as_itself}
-use Rattle.fallible_itertools_adapters.proofs.Lemmas.StagingLists.{IsAnswerMade}
+use Rattle.fallible_itertools_adapters.specs.Intersperse.{CallsMakeShown, intersperse_contract, intersperse_parts, intersperse_plan, intersperse_with_contract, intersperse_with_parts, interspersed, interspersed_by, next_separator, separator_cloned, takes_none}
+use Rattle.fallible_itertools_adapters.specs.Staging.{before_rest, item_comes, passes, plan_can, plan_does, staged}
+use Rattle.fallible_itertools_adapters.proofs.Lemmas.Staging.{CallsOnAsked, IsAnswerMade, MakesSame, gives_plan, gives_plan_until_refused, made_as_itself, plan_can_where_callable}
 use Rattle.std.specs.declared.alloc.AllocError.{AllocError}
 use Rattle.fallible_itertools_adapters.specs.declared.intersperse.Intersperse.{Intersperse}
-use Rattle.fallible_itertools_adapters.specs.declared.intersperse_with.IntersperseWith.{IntersperseWith}
+use Rattle.fallible_itertools_adapters.specs.declared.intersperse.IntersperseWith.{IntersperseWith}
 
 module _ {A E : Type 0} where
   pub before_rest_of_result_is_cons : (v : Result A E) (rest : List (Result A E)) → before_rest (result_answer v) rest ≡ v ∷ rest

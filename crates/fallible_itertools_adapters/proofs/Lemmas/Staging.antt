@@ -1,21 +1,30 @@
--- The fold of a stage: turns on what is due and on what is emitted are turns on the adapter's own answers.
-use Rattle.std.specs.Prelude.{◌≡◌, ◌<◌, ℕ, List, [], ◌∷◌, ◌++◌, map, ⊤, Option, Some, None, Ok, Err}
+-- The fold of a stage, and what it lists, over a source that lists a list: by what it emits, by functions, and at whose stop what is held comes first.
+use Rattle.std.specs.Prelude.{◌≡◌, ◌<◌, ℕ, List, [], ◌∷◌, ◌++◌, map, ⊤, Option, Some, None, Ok, Err, ◌⊎◌, Result}
 use Rattle.std.specs.List.{FoldsTo}
-use Rattle.std.proofs.Common.{refl, sym, ap, subst, inl, inr}
-use Rattle.fallible_iterator.specs.Traces.{Answered, Run, Yields, item}
-use Rattle.fallible_iterator.specs.Contract.{Contract, KeptByDraws, Lawful}
-use Rattle.fallible_iterator.specs.Closures.{Reaches}
-use Rattle.fallible_iterator.specs.Passing.{IfItem}
-use Rattle.fallible_iterator.specs.Folds.{HoldsAtEachTurn, goes_on, DriveExit, Driven, TurnThrough, beside, beside_names}
-use Rattle.fallible_iterator.specs.Laws.Contract.{kept_by_draws_of_one_draw, kept_by_draws_of_no_draw, kept_by_draws_transitive}
-use Rattle.fallible_iterator.specs.Laws.Closures.{reaches_reflexive, reaches_weaken, reaches_by_call_first, is_callable_after}
-use Rattle.fallible_iterator.proofs.Lemmas.Folds.{holds_at_first_turn, holds_each_turn_after_item, driven_by_item_first, driven_end, driven_failure, driven_of_first_break, fold_of_references_drives_values, names_kept}
-use Rattle.fallible_iterator.proofs.Lemmas.Folding.{drained_by_same_steps, holds_each_turn_by_same_steps}
-use Rattle.fallible_itertools_adapters.specs.Staging.{DrawsUpTo, Emitted, yields, passes_over, due_comes, due_left, stage_meets, stage_step, stop_answer, MayMeet, TakesAll, IsStage, IsStop, EndsInStop, Told, DueTold, EmittedTold, DueTakes, EmittedTakes, Met, MetTakes, StageTurns}
-use Rattle.fallible_itertools_adapters.specs.Laws.Staging.{may_meet_of_answer, may_meet_before_draws}
+use Rattle.std.specs.declared.alloc.AllocError.{AllocError}
 use Rattle.std.specs.declared.ops.ControlFlow.{ControlFlow}
 use Rattle.std.specs.declared.ops.ControlFlow.TheVariants.{Continue, Break}
+use Rattle.std.proofs.Common.{refl, sym, ap, subst, inl, inr, ◌∙◌, arith}
 use Rattle.fallible_iterator.specs.Beside.{Beside}
+use Rattle.fallible_iterator.specs.Closures.{IsCallable, Reaches}
+use Rattle.fallible_iterator.specs.Contract.{Contract, KeptByDraws, Lawful}
+use Rattle.fallible_iterator.specs.Folds.{HoldsAtEachTurn, goes_on, DriveExit, Driven, TurnThrough, beside, beside_names}
+use Rattle.fallible_iterator.specs.Lists.{AlwaysGives, EndsForGood, result_answer}
+use Rattle.fallible_iterator.specs.Making.{AtRefusal, GivesMade, IsMadeOf, IsRefusal}
+use Rattle.fallible_iterator.specs.Passing.{IfItem}
+use Rattle.fallible_iterator.specs.Refusing.{AnswersRefusal, GivesUntilRefused}
+use Rattle.fallible_iterator.specs.Traces.{Answered, Run, Yields, end, item}
+use Rattle.fallible_iterator.specs.Laws.Closures.{reaches_reflexive, reaches_weaken, reaches_by_call_first, is_callable_after}
+use Rattle.fallible_iterator.specs.Laws.Contract.{kept_by_draws_of_one_draw, kept_by_draws_of_no_draw, kept_by_draws_transitive}
+use Rattle.fallible_iterator.proofs.Lemmas.Folding.{drained_by_same_steps, holds_each_turn_by_same_steps}
+use Rattle.fallible_iterator.proofs.Lemmas.Folds.{holds_at_first_turn, holds_each_turn_after_item, driven_by_item_first, driven_end, driven_failure, driven_of_first_break, fold_of_references_drives_values, names_kept}
+use Rattle.fallible_iterator.proofs.Lemmas.UntilRefused.{always_of_until_refused}
+use Rattle.fallible_itertools_adapters.specs.Adjacent.{AdjacentItems}
+use Rattle.fallible_itertools_adapters.specs.Staging.{DrawsUpTo, Emitted, yields, passes_over, due_comes, due_left, stage_meets, stage_step, stop_answer, MayMeet, TakesAll, IsStage, IsStop, EndsInStop, Told, DueTold, EmittedTold, DueTakes, EmittedTakes, Met, MetTakes, StageTurns, before_rest, due_first, emitted_first, staged, Follows, Transition, Plan, calls, makes, plan_meets, followed, plan_does, ends_come, before_stop, IsTransition, as_function, stop_comes, CanFollow, plan_can, plan_item, plan_takes, held_one, HintsPastFailure, hint_unless_end, HintBy, HintPlan, plan_hint}
+use Rattle.fallible_itertools_adapters.specs.Laws.Staging.{may_meet_of_answer, may_meet_before_draws, kept_where_reached, Always, ItemBuffers, NoEnd, always_weaken, failure_buffers}
+use Rattle.fallible_itertools_adapters.proofs.Lemmas.Adjacent.{EachNext, HoldsOfNext, adjacent_items_of_each_next}
+
+-- ---- The fold of a stage: turns on what is due and on what is emitted are turns on the adapter's own answers
 
 -- ---- a turn on one answer, of any iterator
 
@@ -277,3 +286,441 @@ module _ {S P X D B L E : Type 0} {m : Contract S X D} (l : Lawful m) (comes : L
 
   pub takes_all_after_draw : (takes : P → X → Type 0) {s t : S} {p q : P} (a : Answered X D) (emitted : Emitted B L E) → m.can_next s → m.steps s a t → meets p a emitted q → TakesAll m meets takes s p → TakesAll m meets takes t q
   takes_all_after_draw takes {s = s} {t = t} {p = p} {q = q} a emitted c step called callable = let g = l.kept_by_draw s a t c step in is_callable_after {pre = λ h b. IfItem (takes h) b} (may_meet_before_draws m s t (kept_by_draws_of_one_draw g)) (reaches_by_call_first a emitted (may_meet_of_answer m s t a g.answer) called reaches_reflexive) callable
+
+-- ---- What a stage lists, over a source that lists a list, by what it emits at each answer; up to an allocation failure, where one may come
+
+module _ {L Y E : Type 0} (comes : L → Option (Answered Y E)) where
+  -- an end is due; one is emitted
+  abbrev EndDue : Option L → Type 0
+  EndDue None = ⊥
+  EndDue (Some later) = due_comes (comes later) ≡ end
+
+  abbrev pub EndEmitted : Emitted Y L E → Type 0
+  EndEmitted None = ⊥
+  EndEmitted (Some (a, due)) = (a ≡ end) ⊎ EndDue due
+
+module _ {Y B E : Type 0} (made : Y → B → Type 0) where
+  -- the answer is the given one, with a value that is made of the given one; and the same of what is emitted
+  abbrev pub IsAnswerMade : Answered Y E → Answered B E → Type 0
+  IsAnswerMade (Ok (Some z)) r = IsMadeOf made (Ok z) r
+  IsAnswerMade (Ok None) r = r ≡ end
+  IsAnswerMade (Err e) r = r ≡ Err e
+
+  abbrev pub IsMadeAs : {L : Type 0} → Emitted Y L E → Emitted B L E → Type 0
+  IsMadeAs None None = ⊤
+  IsMadeAs (Some (a, due)) (Some (r, later)) = IsAnswerMade a r × (later ≡ due)
+  IsMadeAs m n = ⊥
+
+module _ {S P X Y B L E : Type 0} (steps : S → Answered X E → S → Type 0) (comes : L → Option (Answered B E)) (meets : P → Answered X E → Emitted B L E → P → Type 0) (made : Y → B → Type 0) (Refuses : Answered B E → S × (P × Option L) → Type 0) where
+  abbrev ListState : Type 0
+  ListState = S × (P × Option L)
+
+  -- r is the first of the list, or `Refuses` holds of it; and so on from t
+  abbrev IsFirst : List (Result Y E) → Answered B E → ListState → Type 0
+  IsFirst [] r t = r ≡ end
+  IsFirst (y ∷ l) r t = Refuses r t ⊎ (IsMadeOf made y r × ((z : Answered B E) (u : ListState) → stage_step comes meets steps t z u → IsFirst l z u))
+
+  abbrev pub GivesUpTo : ListState → List (Result Y E) → Type 0
+  GivesUpTo s l = (r : Answered B E) (t : ListState) → stage_step comes meets steps s r t → IsFirst l r t
+
+  -- `Refuses` holds of what is emitted
+  abbrev pub RefusedAt : P → Emitted B L E → Type 0
+  RefusedAt q None = ⊥
+  RefusedAt q (Some (r, due)) = (t : S) → Refuses r (t, (q, due))
+
+  -- `At p a` says that the stage holds p as a says; `listed` says what is due, in the list.
+  module _ {Q : Type 0} (listed : L → Option (Answered Y E)) (At : P → Q → Type 0) (does : Q → Answered X E → Emitted Y L E × Q)
+      (due_made : (later : L) → IsAnswerMade made (due_comes (listed later)) (due_comes (comes later)))
+      (acts : (p q : P) (a : Q) (y : Result X E) (m : Emitted B L E) → At p a → meets p (result_answer y) m q → RefusedAt q m ⊎ (At q (does a (result_answer y)).1 × IsMadeAs made (does a (result_answer y)).0 m))
+      (ends : (p q : P) (a : Q) (m : Emitted B L E) → At p a → meets p end m q → EndEmitted listed (does a end).0 × IsMadeAs made (does a end).0 m)
+      (never_nil : (p q : P) (a : Q) (y : Result X E) (l : List (Result X E)) (r : Answered B E) (due : Option L) (t : S) → At p a → meets p (result_answer y) (Some (r, due)) q → Refuses r (t, (q, due)) → staged listed does a (y ∷ l) ≡ [] → ⊥) where
+    first_before : (a : Answered Y E) (r : Answered B E) (t : ListState) (rest : List (Result Y E)) → IsAnswerMade made a r → ((a ≡ end → ⊥) → GivesUpTo t rest) → IsFirst (before_rest a rest) r t
+    first_before (Ok (Some z)) r t rest w g = inr (w, g (λ e. cc))
+    first_before (Ok None) r t rest w g = w
+    first_before (Err e) r t rest w g = inr (w, g (λ is. cc))
+
+    none_left : (later : L) (c : Option (Answered B E)) (a : Answered Y E) → IsAnswerMade made a (due_comes c) → (a ≡ end → ⊥) → due_left later c ≡ None
+    none_left later (Some r) a w on = refl
+    none_left later None (Ok (Some z)) w on = absurd w
+    none_left later None (Ok None) w on = absurd (on refl)
+    none_left later None (Err e) w on = absurd cc
+
+    gives_up_to_due_first : (due : Option L) (t : S) (q : P) (rest : List (Result Y E)) → ((EndDue listed due → ⊥) → GivesUpTo (t, (q, None)) rest) → GivesUpTo (t, (q, due)) (due_first listed due rest)
+    gives_up_to_due_first None t q rest g = g (λ e. e)
+    gives_up_to_due_first (Some later) t q rest g = λ r u w. first_before (due_comes (listed later)) r u rest (subst (λ (z : Answered B E). IsAnswerMade made (due_comes (listed later)) z) (sym w.0) (due_made later)) (λ on. subst (λ (s : S). GivesUpTo (s, u.1) rest) (sym w.1) (subst (λ (k : P × Option L). GivesUpTo (t, k) rest) (sym (w.2 ∙ ap (λ (d : Option L). (q, d)) (none_left later (comes later) (due_comes (listed later)) (due_made later) on))) (g on)))
+
+    first_of_emitted : (m : Emitted Y L E) (r : Answered B E) (due : Option L) (t : S) (q : P) (rest : List (Result Y E)) → IsMadeAs made m (Some (r, due)) → ((EndEmitted listed m → ⊥) → GivesUpTo (t, (q, None)) rest) → IsFirst (emitted_first listed m rest) r (t, (q, due))
+    first_of_emitted None r due t q rest w g = absurd w
+    first_of_emitted (Some (a, later)) r due t q rest w g = first_before a r (t, (q, due)) (due_first listed later rest) w.0 (λ on. subst (λ (d : Option L). GivesUpTo (t, (q, d)) (due_first listed later rest)) (sym w.1) (gives_up_to_due_first later t q rest (λ undue. g (λ over. elim over [ inl e ↦ on e | inr e ↦ undue e ]))))
+
+    first_of_rest_where_none_emitted : (m : Emitted Y L E) (rest : List (Result Y E)) (r : Answered B E) (t : ListState) → IsMadeAs made m None → IsFirst rest r t → IsFirst (emitted_first listed m rest) r t
+    first_of_rest_where_none_emitted None rest r t w f = f
+    first_of_rest_where_none_emitted (Some (a, due)) rest r t w f = absurd w
+
+    first_refused : (l : List (Result Y E)) (r : Answered B E) (t : ListState) → Refuses r t → (l ≡ [] → ⊥) → IsFirst l r t
+    first_refused [] r t w some = absurd (some refl)
+    first_refused (y ∷ l) r t w some = inl w
+
+    emitted_at_end_is_not_none : (m : Emitted Y L E) → EndEmitted listed m → IsMadeAs made m None → ⊥
+    emitted_at_end_is_not_none None e w = e
+    emitted_at_end_is_not_none (Some (a, due)) e w = w
+
+    first_of_staged_at_end : (s t : S) (p : P) (a : Q) (r : Answered B E) (q : P × Option L) → At p a → AlwaysGives steps s [] → DrawsUpTo comes meets steps s p r t q → IsFirst (staged listed does a []) r (t, q)
+    first_of_staged_at_end s t p a r _ at i (yields {q = q} {due = due} x step called) = let k = ends p q a (Some (r, due)) at (rw (i x t step) at called) in first_of_emitted (does a end).0 r due t q [] k.1 (λ on. absurd (on k.0))
+    first_of_staged_at_end s t p a r q at i (passes_over {u = u} {h = h} x step called rest) = let k = ends p h a None at (rw (i x u step) at called) in absurd (emitted_at_end_is_not_none (does a end).0 k.0 k.1)
+
+    first_of_staged_at_item : (y : Result X E) (l : List (Result X E)) (s t : S) (p : P) (a : Q) (r : Answered B E) (q : P × Option L) → At p a → AlwaysGives steps s (y ∷ l) → ((u : S) (h : P) → At h (does a (result_answer y)).1 → AlwaysGives steps u l → GivesUpTo (u, (h, None)) (staged listed does (does a (result_answer y)).1 l)) → DrawsUpTo comes meets steps s p r t q → IsFirst (staged listed does a (y ∷ l)) r (t, q)
+    first_of_staged_at_item y l s t p a r _ at i then (yields {q = q} {due = due} x step called) = let k = i x t step in elim (acts p q a y (Some (r, due)) at (rw k.0 at called)) [
+      | inl w ↦ first_refused (staged listed does a (y ∷ l)) r (t, (q, due)) (w t) (never_nil p q a y l r due t at (rw k.0 at called) (w t))
+      | inr w ↦ first_of_emitted (does a (result_answer y)).0 r due t q _ w.1 (λ on. then t q w.0 k.1)
+    ]
+    first_of_staged_at_item y l s t p a r q at i then (passes_over {u = u} {h = h} x step called rest) = let k = i x u step in elim (acts p h a y None at (rw k.0 at called)) [
+      | inl w ↦ absurd w
+      | inr w ↦ first_of_rest_where_none_emitted (does a (result_answer y)).0 _ r (t, q) w.1 (then u h w.0 k.1 r (t, q) rest)
+    ]
+
+    pub gives_staged_up_to_refusal : (l : List (Result X E)) (s : S) (p : P) (a : Q) → At p a → AlwaysGives steps s l → GivesUpTo (s, (p, None)) (staged listed does a l)
+    gives_staged_up_to_refusal [] s p a at i = λ r t w. first_of_staged_at_end s t.0 p a r t.1 at i w
+    gives_staged_up_to_refusal (y ∷ l) s p a at i = λ r t w. first_of_staged_at_item y l s t.0 p a r t.1 at i (λ u h b j. gives_staged_up_to_refusal l u h (does a (result_answer y)).1 b j) w
+
+-- ---- a type each step of which is one of a stage
+
+module _ {V S P X B L E : Type 0} (view : V → S × (P × Option L)) (steps : S → Answered X E → S → Type 0) (comes : L → Option (Answered B E)) (meets : P → Answered X E → Emitted B L E → P → Type 0) (taken : V → Answered B E → V → Type 0) (each : (u : V) (r : Answered B E) (v : V) → taken u r v → stage_step comes meets steps (view u) r (view v)) where
+  module _ {Y : Type 0} (made : Y → B → Type 0) (from : AllocError → E → Type 0) where
+    pub until_refused_within : (l : List (Result Y E)) (v : V) → GivesUpTo steps comes meets made (λ r t. AnswersRefusal from r) (view v) l → GivesUntilRefused made taken from v l
+    until_refused_within [] v g = λ r t w. g r (view t) (each v r t w)
+    until_refused_within (y ∷ l) v g = λ r t w. elim (g r (view t) (each v r t w)) [ inl k ↦ inl k | inr k ↦ inr (k.0, until_refused_within l t k.1) ]
+
+    at_refusal_within : (r : Answered B E) (t : V) → AtRefusal made (stage_step comes meets steps) from r (view t) → AtRefusal made taken from r t
+    at_refusal_within r t (inl w) = inl w
+    at_refusal_within r t (inr w) = inr (w.0, w.1, w.2, w.3, λ z u step. w.4 z (view u) (each t z u step))
+
+    pub gives_made_within : (l : List (Result Y E)) (v : V) → GivesUpTo steps comes meets made (AtRefusal made (stage_step comes meets steps) from) (view v) l → GivesMade made taken from v l
+    gives_made_within [] v g = λ r t w. inr (g r (view t) (each v r t w))
+    gives_made_within (y ∷ l) v g = λ r t w. elim (g r (view t) (each v r t w)) [ inl k ↦ inl (at_refusal_within r t k) | inr k ↦ inr (k.0, gives_made_within l t k.1) ]
+
+-- ---- What an adapter by functions lists, where what it calls acts as a function says; up to an allocation failure, where one may come
+
+module _ {B E : Type 0} (of : B → B → Type 0) (itself : (y : B) → of y y) where
+  pub answer_made_of_itself : (a : Answered B E) → IsAnswerMade of a a
+  answer_made_of_itself (Ok (Some y)) = itself y
+  answer_made_of_itself (Ok None) = refl
+  answer_made_of_itself (Err e) = refl
+
+  pub made_as_itself : {L : Type 0} (m : Emitted B L E) → IsMadeAs of m m
+  made_as_itself None = tt
+  made_as_itself (Some (a, due)) = (answer_made_of_itself a, refl)
+
+-- ---- where ends are due
+
+module _ {S P X D B E : Type 0} (meets : P → Answered X D → Emitted B (Unit {0}) E → P → Type 0) (steps : S → Answered X D → S → Type 0) where
+  abbrev EndsSteps : S × (P × Option (Unit {0})) → Answered B E → S × (P × Option (Unit {0})) → Type 0
+  EndsSteps = stage_step ends_come meets steps
+
+  same_after_run : (trace : List (Answered B E)) (s : S) (p : P) (t : S × (P × Option (Unit {0}))) → Run EndsSteps (s, (p, Some tt)) trace t → t ≡ (s, (p, Some tt))
+  same_after_run [] s p t ran = sym ran
+  same_after_run (r ∷ rest) s p t ran = same_after_run rest s p t (subst (λ (z : S). Run EndsSteps (z, (p, Some tt)) rest t) ran.1.1 (subst (λ (k : P × Option (Unit {0})). Run EndsSteps (ran.0.0, k) rest t) ran.1.2 ran.2))
+
+  pub ends_for_good_where_ends_due : (s : S) (p : P) (over : Unit {0}) → EndsForGood EndsSteps (s, (p, Some over))
+  ends_for_good_where_ends_due s p over = record { each = λ trace t u r ran w. (subst (λ z. EndsSteps z r u) (same_after_run trace s p t ran) w).0 }
+
+-- ---- by plans
+
+-- `At f z` says that what is called is f where it acts by z. A call then returns what `Same` says of (acts z q).0, or what `Refused` holds of.
+module _ {S F Z H Q R X B L E : Type 0} (steps : S → Answered X E → S → Type 0) (comes : L → Option (Answered B E)) (call : F → Q → R → F → Type 0) (plan : H → X → Plan Q R (Transition H B L E)) (stops : H → Option E → Transition H B L E) (acts : Z → Q → R × Z) where
+  abbrev PlanState : Type 0
+  PlanState = S × ((H × F) × Option L)
+
+  abbrev PlanSteps : PlanState → Answered B E → PlanState → Type 0
+  PlanSteps = stage_step comes (plan_meets call plan stops) steps
+
+  abbrev list_of : H → Z → List (Result X E) → List (Result B E)
+  list_of h z l = staged comes (plan_does acts plan stops) (h, z) l
+
+  module _ (of : B → B → Type 0) (from : AllocError → E → Type 0) (At : F → Z → Type 0) (Same : R → R → Type 0) (Refused : R → Type 0) (does : (f : F) (z : Z) (q : Q) (v : R) (g : F) → At f z → call f q v g → Refused v ⊎ (Same (acts z q).0 v × At g (acts z q).1)) where
+    -- an allocation failure is what is emitted
+    abbrev pub RefusalEmitted : Emitted B L E → Type 0
+    RefusalEmitted None = ⊥
+    RefusalEmitted (Some (r, due)) = AnswersRefusal from r
+
+    -- what a plan emits by such results is the same
+    abbrev pub MakesSame : Plan Q R (Transition H B L E) → Type 0
+    MakesSame (makes t) = IsMadeAs of t.0 t.0
+    MakesSame (calls q by) = ((v : R) → Refused v → RefusalEmitted (by v).0) × ((w v : R) → Same w v → IsMadeAs of (by w).0 (by v).0 × ((by v).1 ≡ (by w).1))
+
+    abbrev AtState : H × F → H × Z → Type 0
+    AtState p a = (p.0 ≡ a.0) × At p.1 a.1
+
+    abbrev Refuses : Answered B E → PlanState → Type 0
+    Refuses r t = AnswersRefusal from r
+
+    abbrev ActsOrRefused : Transition (H × Z) B L E → Emitted B L E → H × F → Type 0
+    ActsOrRefused t m q = RefusalEmitted m ⊎ (AtState q t.1 × IsMadeAs of t.0 m)
+
+    follows_acts : (t : Plan Q R (Transition H B L E)) (f : F) (z : Z) (m : Emitted B L E) (q : H × F) → MakesSame t → At f z → Follows call t f m q.0 q.1 → ActsOrRefused (followed acts t z) m q
+    follows_acts (makes t) f z m q same at w = inr ((w.0.1, subst (λ g. At g z) (sym w.1) at), rw w.0.0 same)
+    follows_acts (calls q by) f z m p same at w = elim (does f z q w.0 p.1 at w.1) [
+      | inl k ↦ inl (rw w.2.0 (same.0 w.0 k))
+      | inr k ↦ (let s = same.1 (acts z q).0 w.0 k.0 in inr ((rw w.2.1 s.1, k.1), rw w.2.0 s.0))
+    ]
+
+    module _ (agree : (h : H) (x : X) → MakesSame (plan h x)) (stop_agrees : (h : H) (stop : Option E) → IsMadeAs of (stops h stop).0 (stops h stop).0) (due_agrees : (later : L) → IsAnswerMade of (due_comes (comes later)) (due_comes (comes later))) (ends : (h : H) → EndEmitted comes (stops h None).0)
+        (never_nil : (h : H) (f : F) (z : Z) (y : Result X E) (l : List (Result X E)) (r : Answered B E) (due : Option L) (q : H × F) → plan_meets call plan stops (h, f) (result_answer y) (Some (r, due)) q → AnswersRefusal from r → list_of h z (y ∷ l) ≡ [] → ⊥) where
+      acts_at : (h : H) (f : F) (z : Z) (a : Answered X E) (m : Emitted B L E) (q : H × F) → At f z → plan_meets call plan stops (h, f) a m q → ActsOrRefused (plan_does acts plan stops (h, z) a) m q
+      acts_at h f z (Ok (Some x)) m q at w = follows_acts (plan h x) f z m q (agree h x) at w
+      acts_at h f z (Ok None) m q at w = inr ((w.0.1, subst (λ g. At g z) (sym w.1) at), rw w.0.0 (stop_agrees h None))
+      acts_at h f z (Err e) m q at w = inr ((w.0.1, subst (λ g. At g z) (sym w.1) at), rw w.0.0 (stop_agrees h (Some e)))
+
+      acts_where_at : (p q : H × F) (a : H × Z) (x : Answered X E) (m : Emitted B L E) → AtState p a → plan_meets call plan stops p x m q → ActsOrRefused (plan_does acts plan stops a x) m q
+      acts_where_at p q a x m at w = acts_at a.0 p.1 a.1 x m q at.1 (subst (λ h. plan_meets call plan stops (h, p.1) x m q) at.0 w)
+
+      refused_at : (q : H × F) (m : Emitted B L E) → RefusalEmitted m → RefusedAt steps comes (plan_meets call plan stops) of Refuses q m
+      refused_at q None w = w
+      refused_at q (Some (r, due)) w = λ t. w
+
+      acts_on_result : (p q : H × F) (a : H × Z) (y : Result X E) (m : Emitted B L E) → AtState p a → plan_meets call plan stops p (result_answer y) m q → RefusedAt steps comes (plan_meets call plan stops) of Refuses q m ⊎ (AtState q (plan_does acts plan stops a (result_answer y)).1 × IsMadeAs of (plan_does acts plan stops a (result_answer y)).0 m)
+      acts_on_result p q a y m at w = elim (acts_where_at p q a (result_answer y) m at w) [
+        | inl k ↦ inl (refused_at q m k)
+        | inr k ↦ inr k
+      ]
+
+      acts_at_end : (p q : H × F) (a : H × Z) (m : Emitted B L E) → AtState p a → plan_meets call plan stops p end m q → EndEmitted comes (plan_does acts plan stops a end).0 × IsMadeAs of (plan_does acts plan stops a end).0 m
+      acts_at_end p q a m at w = (ends a.0, rw (w.0.0, at.0) (stop_agrees a.0 None))
+
+      pub gives_plan_until_refused : (l : List (Result X E)) (s : S) (h : H) (f : F) (z : Z) → At f z → AlwaysGives steps s l → GivesUntilRefused of PlanSteps from (s, ((h, f), None)) (list_of h z l)
+      gives_plan_until_refused l s h f z at g = until_refused_within (λ p. p) steps comes (plan_meets call plan stops) PlanSteps (λ u r v w. w) of from (list_of h z l) (s, ((h, f), None))
+          (gives_staged_up_to_refusal steps comes (plan_meets call plan stops) of Refuses comes AtState (plan_does acts plan stops) due_agrees acts_on_result acts_at_end (λ p q a y l r due t at w k. never_nil a.0 p.1 a.1 y l r due q (subst (λ h. plan_meets call plan stops (h, p.1) (result_answer y) (Some (r, due)) q) at.0 w) k) l s (h, f) (h, z) (refl, at) g)
+
+  -- where each call returns just what `acts` says
+  module _ (At : F → Z → Type 0) (does : (f : F) (z : Z) (q : Q) (v : R) (g : F) → At f z → call f q v g → (v ≡ (acts z q).0) × At g (acts z q).1) (ends : (h : H) → EndEmitted comes (stops h None).0) where
+    makes_same : (t : Plan Q R (Transition H B L E)) → MakesSame (λ z y. y ≡ z) (λ a e. ⊥) At (λ w v. v ≡ w) (λ v. ⊥) (λ f z q v g at w. inr (does f z q v g at w)) t
+    makes_same (makes t) = made_as_itself (λ z y. y ≡ z) (λ y. refl) t.0
+    makes_same (calls q by) = ((λ v no. absurd no), (λ w v is. rw is (made_as_itself (λ z y. y ≡ z) (λ y. refl) (by w).0, refl)))
+
+    pub gives_plan : (l : List (Result X E)) (s : S) (h : H) (f : F) (z : Z) → At f z → AlwaysGives steps s l → AlwaysGives PlanSteps (s, ((h, f), None)) (list_of h z l)
+    gives_plan l s h f z at g = always_of_until_refused PlanSteps (λ a e. ⊥) (λ e r. r.1) (list_of h z l) (s, ((h, f), None))
+        (gives_plan_until_refused (λ z y. y ≡ z) (λ a e. ⊥) At (λ w v. v ≡ w) (λ v. ⊥) (λ f z q v g at w. inr (does f z q v g at w)) (λ h x. makes_same (plan h x)) (λ h stop. made_as_itself (λ z y. y ≡ z) (λ y. refl) (stops h stop).0) (λ later. answer_made_of_itself (λ z y. y ≡ z) (λ y. refl) (due_comes (comes later))) ends (λ h f z y l r due q w no. absurd no.2.1) l s h f z at g)
+
+-- ---- What an adapter by functions lists where its answers are made of a list's, up to an allocation failure, at which what is held comes first
+
+module _ {Y B : Type 0} (made : Y → B → Type 0) where
+  -- what is held is made of what is held in the list, and none where none is
+  abbrev pub HeldMade : Option B → Option Y → Type 0
+  HeldMade None None = ⊤
+  HeldMade None (Some y) = ⊥
+  HeldMade (Some b) None = ⊥
+  HeldMade (Some b) (Some y) = made y b
+
+  pub before_stop_made : {E : Type 0} (b : Option B) (y : Option Y) (stop : Option E) → HeldMade b y → IsMadeAs made (before_stop y stop) (before_stop b stop)
+  before_stop_made None None None w = (refl, refl)
+  before_stop_made None None (Some e) w = (refl, refl)
+  before_stop_made None (Some y) stop w = absurd w
+  before_stop_made (Some b) None stop w = absurd w
+  before_stop_made (Some b) (Some y) stop w = (w, refl)
+
+  due_stop_made : {E : Type 0} (stop : Option E) → IsAnswerMade {E = E} made (due_comes (stop_comes stop)) (due_comes (stop_comes stop))
+  due_stop_made None = refl
+  due_stop_made (Some e) = refl
+
+-- `At h k` says that h is held where the list holds k. The list's plan is `list_plan`, and `acts` its call.
+module _ {F H K Q R V W X Y B E : Type 0} (call : F → Q → R → F → Type 0) (plan : H → X → Plan Q R (Transition H B (Option E) E)) (stops : H → Option E → Transition H B (Option E) E) (acts : V → W) (list_plan : K → X → Plan V W (Transition K Y (Option E) E)) (list_stops : K → Option E → Transition K Y (Option E) E) (made : Y → B → Type 0) (from : AllocError → E → Type 0) (f : F) (At : H → K → Type 0) where
+  -- an allocation failed: what is held, and the failure then
+  abbrev pub RefusalAfterHeld : Emitted B (Option E) E → Type 0
+  RefusalAfterHeld m = (held : Option B) × (e : E) × (m ≡ before_stop held (Some e)) × IsRefusal from e
+
+  abbrev pub MadeAlike : Transition H B (Option E) E → Transition K Y (Option E) E → Type 0
+  MadeAlike t u = At t.1 u.1 × IsMadeAs made u.0 t.0
+
+  -- what comes of both is alike, and the call leaves f as it is; up to an allocation failure
+  abbrev pub PlansAlike : Plan Q R (Transition H B (Option E) E) → Plan V W (Transition K Y (Option E) E) → Type 0
+  PlansAlike (makes t) (makes u) = MadeAlike t u
+  PlansAlike (calls q by) (calls v to) = (r : R) (g : F) → call f q r g → RefusalAfterHeld (by r).0 ⊎ ((g ≡ f) × MadeAlike (by r) (to (acts v)))
+  PlansAlike t u = ⊥
+
+  abbrev does : K × Unit {0} → Answered X E → Transition (K × Unit {0}) Y (Option E) E
+  does = plan_does (as_function acts) list_plan list_stops
+
+  abbrev AtMadeState : H × F → K × Unit {0} → Type 0
+  AtMadeState p a = (p.1 ≡ f) × At p.0 a.0
+
+  abbrev RefusedOrAlike : Transition (K × Unit {0}) Y (Option E) E → Emitted B (Option E) E → H × F → Type 0
+  RefusedOrAlike u m q = RefusalAfterHeld m ⊎ (AtMadeState q u.1 × IsMadeAs made u.0 m)
+
+  alike_of_makes : (t : Transition H B (Option E) E) (u : Transition K Y (Option E) E) (z : Unit {0}) (m : Emitted B (Option E) E) (q : H × F) → MadeAlike t u → IsTransition t m q.0 → q.1 ≡ f → AtMadeState q (u.1, z) × IsMadeAs made u.0 m
+  alike_of_makes t u z m q same w is = ((is, rw w.1 same.0), rw w.0 same.1)
+
+  followed_alike : (t : Plan Q R (Transition H B (Option E) E)) (u : Plan V W (Transition K Y (Option E) E)) (z : Unit {0}) (m : Emitted B (Option E) E) (q : H × F) → PlansAlike t u → Follows call t f m q.0 q.1 → RefusedOrAlike (followed (as_function acts) u z) m q
+  followed_alike (makes t) (makes u) z m q same w = inr (alike_of_makes t u z m q same w.0 w.1)
+  followed_alike (makes t) (calls v to) z m q same w = absurd same
+  followed_alike (calls q by) (makes u) z m p same w = absurd same
+  followed_alike (calls q by) (calls v to) z m p same w = elim (same w.0 p.1 w.1) [
+    | inl k ↦ inl (rw w.2.0 k)
+    | inr k ↦ inr (alike_of_makes (by w.0) (to (acts v)) z m p k.1 w.2 k.0)
+  ]
+
+  module _ (plans : (h : H) (k : K) (x : X) → At h k → PlansAlike (plan h x) (list_plan k x)) (stops_alike : (h : H) (k : K) (stop : Option E) → At h k → MadeAlike (stops h stop) (list_stops k stop)) where
+    result_alike : (p q : H × F) (a : K × Unit {0}) (y : Result X E) (m : Emitted B (Option E) E) → AtMadeState p a → plan_meets call plan stops p (result_answer y) m q → RefusedOrAlike (does a (result_answer y)) m q
+    result_alike p q a (Ok x) m at w = followed_alike (plan p.0 x) (list_plan a.0 x) a.1 m q (plans p.0 a.0 x at.1) (subst (λ (g : F). Follows call (plan p.0 x) g m q.0 q.1) at.0 w)
+    result_alike p q a (Err e) m at w = inr (alike_of_makes (stops p.0 (Some e)) (list_stops a.0 (Some e)) a.1 m q (stops_alike p.0 a.0 (Some e) at.1) w.0 (w.1 ∙ at.0))
+
+    module _ {S : Type 0} (steps : S → Answered X E → S → Type 0) (each : (b : B) → (y : Y) × made y b) (ends : (k : K) → EndEmitted stop_comes (list_stops k None).0) (never_nil : (k : K) (y : Result X E) (l : List (Result X E)) → staged stop_comes does (k, tt) (y ∷ l) ≡ [] → ⊥) where
+      abbrev RefusesMade : Answered B E → S × ((H × F) × Option (Option E)) → Type 0
+      RefusesMade = AtRefusal made (stage_step stop_comes (plan_meets call plan stops) steps) from
+
+      -- what is held comes, and the failure is due; or it comes
+      made_refused_at : (held : Option B) (e : E) (q : H × F) → IsRefusal from e → RefusedAt steps stop_comes (plan_meets call plan stops) made RefusesMade q (before_stop held (Some e))
+      made_refused_at None e q because = λ t. inl (e, refl, because)
+      made_refused_at (Some b) e q because = λ t. let y = each b in inr (y.0, b, y.1, refl, λ r u step. (e, step.0, because))
+
+      made_of_result : (p q : H × F) (a : K × Unit {0}) (y : Result X E) (m : Emitted B (Option E) E) → AtMadeState p a → plan_meets call plan stops p (result_answer y) m q → RefusedAt steps stop_comes (plan_meets call plan stops) made RefusesMade q m ⊎ (AtMadeState q (does a (result_answer y)).1 × IsMadeAs made (does a (result_answer y)).0 m)
+      made_of_result p q a y m at w = elim (result_alike p q a y m at w) [
+        | inl k ↦ inl (rw k.2 (made_refused_at k.0 k.1 q k.3))
+        | inr k ↦ inr k
+      ]
+
+      made_at_end : (p q : H × F) (a : K × Unit {0}) (m : Emitted B (Option E) E) → AtMadeState p a → plan_meets call plan stops p end m q → EndEmitted stop_comes (does a end).0 × IsMadeAs made (does a end).0 m
+      made_at_end p q a m at w = (ends a.0, (alike_of_makes (stops p.0 None) (list_stops a.0 None) a.1 m q (stops_alike p.0 a.0 None at.1) w.0 (w.1 ∙ at.0)).1)
+
+      pub gives_made_plan : (l : List (Result X E)) (s : S) (h : H) (k : K) → At h k → AlwaysGives steps s l → GivesMade made (stage_step stop_comes (plan_meets call plan stops) steps) from (s, ((h, f), None)) (staged stop_comes does (k, tt) l)
+      gives_made_plan l s h k at i = gives_made_within (λ p. p) steps stop_comes (plan_meets call plan stops) (stage_step stop_comes (plan_meets call plan stops) steps) (λ u r v w. w) made from (staged stop_comes does (k, tt) l) (s, ((h, f), None))
+          (gives_staged_up_to_refusal steps stop_comes (plan_meets call plan stops) made RefusesMade stop_comes AtMadeState does (due_stop_made made) made_of_result made_at_end (λ p q a y l r due t at w k. never_nil a.0 y l) l s (h, f) (k, tt) (refl, at) i)
+
+-- ---- A plan is followed, by what is held; and where a closure may be called, so may the adapter
+
+pub follows_at : {H F Q R X B L E : Type 0} (call : F → Q → R → F → Type 0) (plan : H → X → Plan Q R (Transition H B L E)) (stops : H → Option E → Transition H B L E) (p : H × F) (x : X) (emitted : Emitted B L E) (q : H × F) (h : H) → p.0 ≡ h → Follows call (plan h x) p.1 emitted q.0 q.1 → plan_item call plan stops p x emitted q
+follows_at call plan stops p x emitted q h at w = subst (λ (k : _). Follows call (plan k x) p.1 emitted q.0 q.1) (sym at) w
+
+-- `asked` holds of what the plans of the items that may come call on.
+module _ {H F Q R X B L E : Type 0} (call : F → Q → R → F → Type 0) (takes : F → Q → Type 0) (plan : H → X → Plan Q R (Transition H B L E)) (stops : H → Option E → Transition H B L E) (asked : Q → Type 0) (P : Answered X E → Type 0) where
+  abbrev pub CallsOnAsked : Plan Q R (Transition H B L E) → Type 0
+  CallsOnAsked (makes t) = ⊤
+  CallsOnAsked (calls q by) = asked q
+
+  module _ (asks : (h : H) (x : X) → P (Ok (Some x)) → CallsOnAsked (plan h x)) where
+    callable_after_followed : (t : Plan Q R (Transition H B L E)) (f : F) (emitted : Emitted B L E) (k : H) (g : F) → CallsOnAsked t → Follows call t f emitted k g → IsCallable call takes asked f → IsCallable call takes asked g
+    callable_after_followed (makes t) f emitted k g on w c = rw w.1 c
+    callable_after_followed (calls q by) f emitted k g on w c = is_callable_after (λ y p. p) (reaches_by_call_first q w.0 on w.1 reaches_reflexive) c
+
+    callable_after_met : (p : H × F) (a : Answered X E) (emitted : Emitted B L E) (q : H × F) → P a → IsCallable call takes asked p.1 → plan_meets call plan stops p a emitted q → IsCallable call takes asked q.1
+    callable_after_met p (Ok (Some x)) emitted q may c w = callable_after_followed (plan p.0 x) p.1 emitted q.0 q.1 (asks p.0 x may) w c
+    callable_after_met p (Ok None) emitted q may c w = rw w.1 c
+    callable_after_met p (Err e) emitted q may c w = rw w.1 c
+
+    can_follow_where_callable : (t : Plan Q R (Transition H B L E)) (f : F) → CallsOnAsked t → IsCallable call takes asked f → CanFollow takes t f
+    can_follow_where_callable (makes t) f on c = tt
+    can_follow_where_callable (calls q by) f on c = c.at f q reaches_reflexive on
+
+    takes_where_callable : (p : H × F) (a : Answered X E) → P a → IsCallable call takes asked p.1 → IfItem (plan_takes takes plan p) a
+    takes_where_callable p (Ok (Some x)) may c = can_follow_where_callable (plan p.0 x) p.1 (asks p.0 x may) c
+    takes_where_callable p (Ok None) may c = tt
+    takes_where_callable p (Err e) may c = tt
+
+    pub plan_can_where_callable : (p : H × F) → IsCallable call takes asked p.1 → plan_can call plan stops takes P p
+    plan_can_where_callable p c = record { at = λ q a reached may. takes_where_callable q a may (kept_where_reached (λ (k : H × F). IsCallable call takes asked k.1) callable_after_met reached c) }
+
+-- ---- Adapters by functions at whose stop what is held comes first: a failure parts what they list, and their hint where one is due
+
+-- ---- what is emitted at a stop
+
+-- an end is emitted at one
+pub end_before_stop : {B : Type 0} (E : Type 0) (kept : Option B) → EndEmitted (stop_comes {B = B} {E = E}) (before_stop kept None)
+end_before_stop E None = inl refl
+end_before_stop E (Some y) = inr refl
+
+-- ---- a failure parts the list
+
+module _ {B E : Type 0} (k : List (Result B E)) where
+  emitted_first_append : (m : Emitted B (Option E) E) (j : List (Result B E)) → NoEnd m → emitted_first stop_comes m (j ++ k) ≡ emitted_first stop_comes m j ++ k
+  emitted_first_append None j on = refl
+  emitted_first_append (Some (Ok (Some y), None)) j on = refl
+  emitted_first_append (Some (Ok (Some y), Some None)) j on = absurd on
+  emitted_first_append (Some (Ok (Some y), Some (Some e))) j on = refl
+  emitted_first_append (Some (Ok None, due)) j on = absurd on
+  emitted_first_append (Some (Err d, None)) j on = refl
+  emitted_first_append (Some (Err d, Some None)) j on = absurd on
+  emitted_first_append (Some (Err d, Some (Some e))) j on = refl
+
+  before_failure_first : (kept : Option B) (e : E) → emitted_first stop_comes (before_stop kept (Some e)) k ≡ emitted_first stop_comes (before_stop kept None) [] ++ Err e ∷ k
+  before_failure_first None e = refl
+  before_failure_first (Some y) e = refl
+
+always_of_followed : {Q R H B L E : Type 0} (P : Emitted B L E → Type 0) (g : Q → R) (t : Plan Q R (Transition H B L E)) → Always (λ v. P v.0) t → P (followed (as_function g) t tt).0
+always_of_followed P g (makes t) is = is
+always_of_followed P g (calls q by) is = is (g q)
+
+-- ---- adjacent items are apart
+
+module _ {B : Type 0} (P : B → B → Type 0) where
+  -- an item is held, and P holds of z and that
+  abbrev pub HoldsOfHeld : B → Option B → Type 0
+  HoldsOfHeld z None = ⊥
+  HoldsOfHeld z (Some y) = P z y
+
+  -- Where P holds of z and what was held, it holds of z and the item that is emitted, or of z and what is held then if none is. It also holds of an item that is emitted and what is held then.
+  abbrev pub Apart : {E : Type 0} → Option B → Emitted B (Option E) E → Option B → Type 0
+  Apart was None held = (z : B) → HoldsOfHeld z was → HoldsOfHeld z held
+  Apart was (Some (Ok (Some y), None)) held = HoldsOfHeld y held × ((z : B) → HoldsOfHeld z was → P z y)
+  Apart was (Some (Ok (Some y), Some later)) held = (z : B) → HoldsOfHeld z was → P z y
+  Apart was (Some (Ok None, due)) held = ⊤
+  Apart was (Some (Err e, due)) held = ⊤
+
+  module _ {E : Type 0} where
+    next_apart : (was held : Option B) (emitted : Emitted B (Option E) E) (rest : List (Result B E)) (z : B) → Apart was emitted held → HoldsOfHeld z was → (HoldsOfHeld z held → HoldsOfNext P z rest) → HoldsOfNext P z (emitted_first stop_comes emitted rest)
+    next_apart was held None rest z apart at next = next (apart z at)
+    next_apart was held (Some (Ok (Some y), None)) rest z apart at next = apart.1 z at
+    next_apart was held (Some (Ok (Some y), Some later)) rest z apart at next = apart z at
+    next_apart was held (Some (Ok None, due)) rest z apart at next = tt
+    next_apart was held (Some (Err e, due)) rest z apart at next = tt
+
+    each_apart : (was held : Option B) (emitted : Emitted B (Option E) E) (rest : List (Result B E)) → Apart was emitted held → ((y : B) → HoldsOfHeld y held → HoldsOfNext P y rest) → EachNext P rest → EachNext P (emitted_first stop_comes emitted rest)
+    each_apart was held None rest apart next each = each
+    each_apart was held (Some (Ok (Some y), None)) rest apart next each = (next y apart.0, each)
+    each_apart was held (Some (Ok (Some y), Some None)) rest apart next each = (tt, tt)
+    each_apart was held (Some (Ok (Some y), Some (Some e))) rest apart next each = (tt, each)
+    each_apart was held (Some (Ok None, due)) rest apart next each = tt
+    each_apart was held (Some (Err e, None)) rest apart next each = each
+    each_apart was held (Some (Err e, Some None)) rest apart next each = tt
+    each_apart was held (Some (Err e, Some (Some d))) rest apart next each = each
+
+    apart_at_stop : (was held : Option B) (stop : Option E) → Apart was (before_stop was stop) held
+    apart_at_stop None held None = tt
+    apart_at_stop None held (Some e) = tt
+    apart_at_stop (Some y) held stop = λ z after. after
+
+-- `kept h` is what comes of h at a stop, and `empty h` is held then.
+module _ {Q R H X B E : Type 0} (g : Q → R) (plan : H → X → Plan Q R (Transition H B (Option E) E)) (kept : H → Option B) (empty : H → H) where
+  abbrev lets_go : H → Option E → Transition H B (Option E) E
+  lets_go h stop = (before_stop (kept h) stop, empty h)
+
+  abbrev list_from : H → List (Result X E) → List (Result B E)
+  list_from h l = staged stop_comes (plan_does (as_function g) plan lets_go) (h, tt) l
+
+  module _ (none : H) (settles : (h : H) → empty h ≡ none) (held : H → ℕ) (buffers : (h : H) (x : X) → Always (λ t. ItemBuffers held h t) (plan h x)) where
+    -- What stands before a failure is listed by itself, and so is what comes after it.
+    pub parted_by_failure : (h : H) (l : List (Result X E)) (e : E) (k : List (Result X E)) → list_from h (l ++ Err e ∷ k) ≡ list_from h l ++ Err e ∷ list_from none k
+    parted_by_failure h [] e k = before_failure_first (list_from (empty h) k) (kept h) e ∙ ap (λ (n : H). list_from h [] ++ Err e ∷ list_from n k) (settles h)
+    parted_by_failure h (Ok x ∷ l) e k = let t = followed (as_function g) (plan h x) tt in ap (λ j. emitted_first stop_comes t.0 j) (parted_by_failure t.1.0 l e k) ∙ emitted_first_append (Err e ∷ list_from none k) t.0 (list_from t.1.0 l) (always_of_followed (λ m. NoEnd m) g (plan h x) (always_weaken (λ t is. is.1) (plan h x) (buffers h x)))
+    parted_by_failure h (Err d ∷ l) e k = ap (λ j. emitted_first stop_comes (before_stop (kept h) (Some d)) j) (parted_by_failure (empty h) l e k) ∙ emitted_first_append (Err e ∷ list_from none k) (before_stop (kept h) (Some d)) (list_from (empty h) l) (failure_buffers held_one (kept h) None (kept h) d (omega arith) refl).1
+
+  -- ---- adjacent items are apart
+
+  module _ (P : B → B → Type 0) (Good : H → Type 0) (at_item : (h : H) (x : X) → Good h → Apart P (kept h) (followed (as_function g) (plan h x) tt).0 (kept (followed (as_function g) (plan h x) tt).1.0)) (good_at_item : (h : H) (x : X) → Good h → Good (followed (as_function g) (plan h x) tt).1.0) (good_at_stop : (h : H) → Good (empty h)) where
+    next_of_list : (l : List (Result X E)) (h : H) (z : B) → Good h → HoldsOfHeld P z (kept h) → HoldsOfNext P z (list_from h l)
+    next_of_list [] h z good after = next_apart P (kept h) (kept (empty h)) (before_stop (kept h) None) [] z (apart_at_stop P (kept h) _ None) after (λ at. tt)
+    next_of_list (Ok x ∷ l) h z good after = let t = followed (as_function g) (plan h x) tt in next_apart P (kept h) (kept t.1.0) t.0 (list_from t.1.0 l) z (at_item h x good) after (next_of_list l t.1.0 z (good_at_item h x good))
+    next_of_list (Err e ∷ l) h z good after = next_apart P (kept h) (kept (empty h)) (before_stop (kept h) (Some e)) (list_from (empty h) l) z (apart_at_stop P (kept h) _ (Some e)) after (next_of_list l (empty h) z (good_at_stop h))
+
+    each_of_list : (l : List (Result X E)) (h : H) → Good h → EachNext P (list_from h l)
+    each_of_list [] h good = each_apart P (kept h) (kept (empty h)) (before_stop (kept h) None) [] (apart_at_stop P (kept h) _ None) (λ y at. tt) tt
+    each_of_list (Ok x ∷ l) h good = let t = followed (as_function g) (plan h x) tt in let then = good_at_item h x good in each_apart P (kept h) (kept t.1.0) t.0 (list_from t.1.0 l) (at_item h x good) (λ y after. next_of_list l t.1.0 y then after) (each_of_list l t.1.0 then)
+    each_of_list (Err e ∷ l) h good = let then = good_at_stop h in each_apart P (kept h) (kept (empty h)) (before_stop (kept h) (Some e)) (list_from (empty h) l) (apart_at_stop P (kept h) _ (Some e)) (λ y after. next_of_list l (empty h) y then after) (each_of_list l (empty h) then)
+
+    pub adjacent_items_apart : (l : List (Result X E)) (h : H) → Good h → AdjacentItems P (list_from h l)
+    adjacent_items_apart l h good = adjacent_items_of_each_next P (list_from h l) (each_of_list l h good)
+
+-- ---- the hint where a failure is due
+
+-- Law: Where a failure is due, each hint of an adapter that buffers, whose hint is by `hint_unless_end`, is one of what comes after it.
+pub hints_past_failure : {S H F X B E : Type 0} (m : Contract S X E) (meets : H × F → Answered X E → Emitted B (Option E) E → H × F → Type 0) (hint : H → HintPlan) (s : S × ((H × F) × Option (Option E))) (e : E) → s.1.1 ≡ Some (Some e) → HintsPastFailure (stage_step stop_comes meets m.steps) (plan_hint m (λ h due. hint_unless_end (hint h) due)) s e
+hints_past_failure {S = S} {H = H} {F = F} {E = E} m meets hint (s, (p, due)) e is t h step made = let w : stage_step stop_comes meets m.steps (s, (p, Some (Some e))) (Err e) t = subst (λ (d : Option (Option E)). stage_step stop_comes meets m.steps (s, (p, d)) (Err e) t) is step in
+    subst (λ (q : S × ((H × F) × Option (Option E))). HintBy m q.0 (hint_unless_end (hint q.1.0.0) q.1.1) h) (sym (ap (λ (z : S). (z, t.1)) w.1 ∙ ap (λ (z : (H × F) × Option (Option E)). (s, z)) w.2)) (subst (λ (d : Option (Option E)). HintBy m s (hint_unless_end (hint p.0) d) h) is made)

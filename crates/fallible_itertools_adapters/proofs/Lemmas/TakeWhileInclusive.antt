@@ -11,12 +11,9 @@ use Rattle.fallible_iterator.specs.Searching.{all_pick}
 use Rattle.fallible_iterator.proofs.Lemmas.Lists.ForGood.{lists_for_good_seen}
 use Rattle.fallible_iterator.proofs.Lemmas.Lists.Passing.{lists_seen}
 use Rattle.fallible_itertools_adapters.specs.Laws.Staging.{parts_equal_where_emitted_equal}
-use Rattle.fallible_itertools_adapters.specs.Plan.{passes, plan_can, plan_meets}
-use Rattle.fallible_itertools_adapters.specs.Staged.{as_function, emitted_first, plan_does, staged}
-use Rattle.fallible_itertools_adapters.specs.Staging.{DrawsUpTo, Emitted, MayMeet, ends_come, passes_over, stage_step, yields}
+use Rattle.fallible_itertools_adapters.specs.Staging.{DrawsUpTo, Emitted, MayMeet, as_function, emitted_first, ends_come, passes, passes_over, plan_can, plan_does, plan_meets, stage_step, staged, yields}
 use Rattle.fallible_itertools_adapters.specs.TakeWhileInclusive.{inclusive_by, inclusive_contract, inclusive_parts, inclusive_plan, taken_while_inclusive}
-use Rattle.fallible_itertools_adapters.proofs.Lemmas.Plan.{plan_can_where_callable}
-use Rattle.fallible_itertools_adapters.proofs.Lemmas.Staged.{ends_for_good_where_ends_due, gives_plan}
+use Rattle.fallible_itertools_adapters.proofs.Lemmas.Staging.{ends_for_good_where_ends_due, gives_plan, plan_can_where_callable}
 use Rattle.fallible_itertools_adapters.specs.declared.take_while_inclusive.TakeWhileInclusive.{TakeWhileInclusive}
 
 -- ---- its equations

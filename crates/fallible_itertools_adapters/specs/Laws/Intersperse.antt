@@ -5,13 +5,9 @@ use Rattle.std.proofs.Common.{arith, inr}
 use Rattle.fallible_iterator.specs.Contract.{Contract, Lawful}
 use Rattle.fallible_iterator.specs.Sources.FromFn.{call_of_none}
 use Rattle.fallible_iterator.specs.Sound.{HintsHold, as_made}
-use Rattle.fallible_itertools_adapters.specs.Intersperse.{intersperse_contract, intersperse_hint_plan, intersperse_plan, separated_by, separator_cloned, fitting, interspersed_high, interspersed_items, unparted, intersperse_hint}
-use Rattle.fallible_itertools_adapters.specs.IntersperseWith.{intersperse_with_contract, takes_none}
-use Rattle.fallible_itertools_adapters.specs.Laws.Plan.{Always, ItemWeighs, is_stage_plan, lawful_closure, lawful_plan, passes_weighs}
-use Rattle.fallible_itertools_adapters.specs.Plan.{none_held, passes, plan_meets, plan_hint}
-use Rattle.fallible_itertools_adapters.specs.Staging.{IsStage, item_comes, due_total, emitted_total, items_of, stage_step}
-use Rattle.fallible_itertools_adapters.specs.Laws.PlanHints.{PlanMakes, makes_at_most_plan, makes_no_fewer_plan, passes_at_most, plan_hold}
-use Rattle.fallible_itertools_adapters.specs.Laws.StagingHints.{DueFew, EmittedFew}
+use Rattle.fallible_itertools_adapters.specs.Intersperse.{intersperse_contract, intersperse_hint_plan, intersperse_plan, separated_by, separator_cloned, fitting, interspersed_high, interspersed_items, unparted, intersperse_hint, intersperse_with_contract, takes_none}
+use Rattle.fallible_itertools_adapters.specs.Laws.Staging.{Always, DueFew, EmittedFew, ItemWeighs, PlanMakes, is_stage_plan, lawful_closure, lawful_plan, makes_at_most_plan, makes_no_fewer_plan, passes_at_most, passes_weighs, plan_hold}
+use Rattle.fallible_itertools_adapters.specs.Staging.{none_held, passes, plan_meets, plan_hint, IsStage, item_comes, due_total, emitted_total, items_of, stage_step}
 use Rattle.std.specs.declared.alloc.AllocError.{AllocError}
 
 module _ {A : Type 0} (E : Type 0) where

@@ -22,13 +22,11 @@ use Rattle.fallible_iterator.proofs.Lemmas.Exchange.{lists_both_ends_of_exchange
 use Rattle.fallible_iterator.proofs.Lemmas.Failing.{lists_mapped_by_function}
 use Rattle.fallible_iterator.proofs.Lemmas.Lists.Passing.{passed, by_outcome}
 use Rattle.fallible_itertools_adapters.specs.Copied.{copied_call, copied_outcome, copied_parts, copied_source}
-use Rattle.fallible_itertools_adapters.specs.ErrInto.{ListsConverted, convert_call, err_into_parts, err_into_source}
-use Rattle.fallible_itertools_adapters.specs.InspectErr.{inspect_err_parts, inspect_err_source, seen_call}
-use Rattle.fallible_itertools_adapters.specs.OrElse.{ListsRecovered, or_else_closure, or_else_outcome, or_else_parts, or_else_source, recovered}
+use Rattle.fallible_itertools_adapters.specs.Failing.{ListsConverted, ListsRecovered, convert_call, err_into_parts, err_into_source, inspect_err_parts, inspect_err_source, or_else_closure, or_else_outcome, or_else_parts, or_else_source, recovered, seen_call}
 use Rattle.fallible_itertools_adapters.specs.declared.copied.Copied.{Copied}
-use Rattle.fallible_itertools_adapters.specs.declared.err_into.ErrInto.{ErrInto}
-use Rattle.fallible_itertools_adapters.specs.declared.inspect_err.InspectErr.{InspectErr}
-use Rattle.fallible_itertools_adapters.specs.declared.or_else.OrElse.{OrElse}
+use Rattle.fallible_itertools_adapters.specs.declared.failing.ErrInto.{ErrInto}
+use Rattle.fallible_itertools_adapters.specs.declared.failing.InspectErr.{InspectErr}
+use Rattle.fallible_itertools_adapters.specs.declared.failing.OrElse.{OrElse}
 
 -- ---- `Copied`
 

@@ -7,12 +7,9 @@ use Rattle.fallible_iterator.specs.Closures.{call_by_reference, takes_by_referen
 use Rattle.fallible_iterator.specs.Contract.{Contract, Lawful}
 use Rattle.fallible_iterator.specs.Laws.Hints.Drawn.{if_some_at_least_of_smaller}
 use Rattle.fallible_iterator.specs.Sound.{HintsHold, sound_once, as_made}
-use Rattle.fallible_itertools_adapters.specs.Laws.Plan.{ItemWeighs, is_stage_plan, lawful_closure, passes_weighs}
-use Rattle.fallible_itertools_adapters.specs.Plan.{none_held, passes, plan_meets, plan_hint}
-use Rattle.fallible_itertools_adapters.specs.Staging.{IsStage, ends_come, due_total, emitted_total, items_of, stage_step}
+use Rattle.fallible_itertools_adapters.specs.Laws.Staging.{ItemWeighs, is_stage_plan, lawful_closure, passes_weighs, PlanMakes, makes_at_most_plan, makes_no_fewer_plan, passes_at_most, plan_hold, due_or_none, StopIsDue, DueFew, EmittedFew}
+use Rattle.fallible_itertools_adapters.specs.Staging.{none_held, passes, plan_meets, plan_hint, IsStage, ends_come, due_total, emitted_total, items_of, stage_step}
 use Rattle.fallible_itertools_adapters.specs.TakeWhileInclusive.{inclusive_by, inclusive_contract, inclusive_hint_plan, inclusive_plan, hint_of_first}
-use Rattle.fallible_itertools_adapters.specs.Laws.PlanHints.{PlanMakes, makes_at_most_plan, makes_no_fewer_plan, passes_at_most, plan_hold, due_or_none}
-use Rattle.fallible_itertools_adapters.specs.Laws.StagingHints.{StopIsDue, DueFew, EmittedFew}
 
 inclusive_weighs : {A : Type 0} (E : Type 0) (x : A) (v : Result Bool E) → ItemWeighs ends_come 1 none_held tt (inclusive_by x v)
 inclusive_weighs E x (Ok true) = (omega arith, omega arith)

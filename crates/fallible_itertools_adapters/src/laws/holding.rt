@@ -1,11 +1,8 @@
 // The laws of the adapters that buffer.
 ghost use Rattle.std.specs.Prelude.{◌≡◌, ◌++◌, ◌∷◌, Bool, true, false, List, Result, Ok, Err, [], map};
-ghost use Rattle.fallible_itertools_adapters.specs.Coalesce.{OneOrBoth, coalesced};
-ghost use Rattle.fallible_itertools_adapters.specs.DedupBy.{deduped_by};
-ghost use Rattle.fallible_itertools_adapters.specs.DedupByKey.{deduped_by_key};
-ghost use Rattle.fallible_itertools_adapters.specs.Dedup.{deduped};
-ghost use Rattle.fallible_itertools_adapters.specs.WithPosition.{positioned};
-ghost use Rattle.fallible_itertools_adapters.specs.declared.with_position.Position.TheVariants.{First, Last, Middle, Only};
+ghost use Rattle.fallible_itertools_adapters.specs.Coalesce.{OneOrBoth, coalesced, deduped, deduped_by, deduped_by_key};
+ghost use Rattle.fallible_itertools_adapters.specs.Positions.{positioned};
+ghost use Rattle.fallible_itertools_adapters.specs.declared.positions.Position.TheVariants.{First, Last, Middle, Only};
 
 /// Of two equal items that stand next to each other the first one is kept. A failure stands in its place.
 #[tactic(auto, unfolding(crate::specs::Dedup::deduped))]

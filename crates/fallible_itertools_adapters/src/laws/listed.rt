@@ -4,15 +4,11 @@ ghost use Rattle.fallible_iterator.specs.Closures.{call_by_value};
 ghost use Rattle.fallible_iterator.specs.Listing.{ListsChanged};
 ghost use Rattle.fallible_iterator.specs.Lists.{pointed_to};
 ghost use Rattle.fallible_itertools_adapters.specs.Copied.{copied_source};
-ghost use Rattle.fallible_itertools_adapters.specs.ErrInto.{ListsConverted};
-ghost use Rattle.fallible_itertools_adapters.specs.InspectErr.{inspect_err_source};
-ghost use Rattle.fallible_itertools_adapters.specs.OrElse.{ListsRecovered};
+ghost use Rattle.fallible_itertools_adapters.specs.Failing.{ListsConverted, ListsRecovered, inspect_err_source};
 ghost use Rattle.fallible_itertools_adapters.specs.Laws.Listed.{copied_listed, err_into_listed, inspect_err_listed, or_else_listed};
 
 use crate::copied::Copied;
-use crate::err_into::ErrInto;
-use crate::inspect_err::InspectErr;
-use crate::or_else::OrElse;
+use crate::failing::{ErrInto, InspectErr, OrElse};
 use fallible_iterator::DoubleEndedFallibleIterator;
 use fallible_iterator::laws::Listed;
 

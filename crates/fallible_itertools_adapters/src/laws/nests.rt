@@ -6,15 +6,11 @@ ghost use Rattle.fallible_iterator.specs.OneToOne.Map.{map_outcome, map_parts};
 ghost use Rattle.fallible_iterator.specs.Passing.{passes_all};
 ghost use Rattle.fallible_iterator.specs.Traces.{Answered, Run};
 ghost use Rattle.fallible_itertools_adapters.specs.Copied.{CopiedTrace, copied_parts};
-ghost use Rattle.fallible_itertools_adapters.specs.ErrInto.{ErrIntoTrace, err_into_parts};
-ghost use Rattle.fallible_itertools_adapters.specs.InspectErr.{InspectErrTrace, inspect_err_parts};
-ghost use Rattle.fallible_itertools_adapters.specs.OrElse.{OrElseTrace, or_else_parts};
+ghost use Rattle.fallible_itertools_adapters.specs.Failing.{ErrIntoTrace, InspectErrTrace, OrElseTrace, err_into_parts, inspect_err_parts, or_else_parts};
 ghost use Rattle.fallible_itertools_adapters.specs.Positions.{PositionsTrace, positions_parts};
 
 use crate::copied::Copied;
-use crate::err_into::ErrInto;
-use crate::inspect_err::InspectErr;
-use crate::or_else::OrElse;
+use crate::failing::{ErrInto, InspectErr, OrElse};
 use crate::positions::Positions;
 use fallible_iterator::laws::law_headline;
 use fallible_iterator::{FallibleIterator, Map};

@@ -17,8 +17,8 @@ use Rattle.std.specs.declared.cmp.Ordering.TheVariants.{Less, Equal, Greater}
 use Rattle.std.specs.declared.ops.ControlFlow.{ControlFlow}
 use Rattle.std.specs.declared.ops.ControlFlow.TheVariants.{Continue, Break}
 use Rattle.fallible_itertools_joins.specs.Sides.{DrawsIf, MakesBesideLeft, MakesTaken, TurnedOn, YieldsHeldFirst, by_ordering, fused_contract, holding, join_step, made_of_two, taken_before}
-use Rattle.fallible_itertools_joins.specs.declared.zip_longest.EitherOrBoth.{EitherOrBoth}
-use Rattle.fallible_itertools_joins.specs.declared.zip_longest.EitherOrBoth.TheVariants.{Left, Right}
+use Rattle.fallible_itertools_joins.specs.declared.zip.EitherOrBoth.{EitherOrBoth}
+use Rattle.fallible_itertools_joins.specs.declared.zip.EitherOrBoth.TheVariants.{Left, Right}
 
 -- a result that is a failure, and which
 pub failure_where_is_err_and : {X E : Type 0} (r : Result X E) (e : E) → IsErrAnd r (λ d. d ≡ e) → r ≡ Err e

@@ -4,9 +4,8 @@ use Rattle.std.proofs.Common.{arith, inl, inr, refl, subst}
 use Rattle.fallible_iterator.specs.Contract.{Contract, Lawful}
 use Rattle.fallible_iterator.specs.Traces.{Answered, item, end}
 use Rattle.fallible_itertools_joins.specs.Interleave.{TakesTurn, TakesTurnOf, interleave_contract, turns}
-use Rattle.fallible_itertools_joins.specs.Laws.Sides.{IsLawfulJoin, OfDrawn, Owed, answers_drawn, items_drawn}
-use Rattle.fallible_itertools_joins.specs.Laws.MergeBy.{sum_bounds}
-use Rattle.fallible_itertools_joins.specs.Laws.SidesHints.{Counts, NoFailure, lawful_joined}
+use Rattle.fallible_itertools_joins.specs.Laws.Sides.{Counts, IsLawfulJoin, NoFailure, OfDrawn, Owed, answers_drawn, items_drawn, lawful_joined}
+use Rattle.fallible_itertools_joins.specs.Laws.Merge.{sum_bounds}
 
 module _ {A E : Type 0} (P : A → Type 0) (R : E → Type 0) (Q : A → Type 0) (O : E → Type 0) (b : Bool) where
   owed_of_left : (r : Answered A E) (i d : ℕ) → OfDrawn P R (Some r) → Owed turns P R Q O b (0 + (items_drawn (Some r) + i)) (0 + (answers_drawn (Some r) + d)) 0 r

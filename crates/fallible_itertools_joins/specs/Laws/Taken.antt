@@ -7,11 +7,10 @@ use Rattle.fallible_iterator.specs.Closures.{IsCallable, MayAnswer, Reaches}
 use Rattle.fallible_iterator.specs.Held.{held_count}
 use Rattle.fallible_iterator.specs.Laws.Closures.{reaches_reflexive, reaches_by_call_first, is_callable_after, may_answer_of_call, may_answer_where_reached_may_answer}
 use Rattle.fallible_iterator.specs.Traces.{Answered, item, end}
-use Rattle.fallible_itertools_joins.specs.Laws.Sides.{Follows, IsLawfulHolding, IsLawfulJoin, MadeOf, OfItem, is_lawful_holding}
-use Rattle.fallible_itertools_joins.specs.Laws.SidesHints.{Bounds, Counts, CountsHolding, MakesOneAtLeast, MakesOneAtMost, counts_holding}
+use Rattle.fallible_itertools_joins.specs.Laws.Sides.{Bounds, Counts, CountsHolding, Follows, IsLawfulHolding, IsLawfulJoin, MadeOf, MakesOneAtLeast, MakesOneAtMost, OfItem, counts_holding, is_lawful_holding}
 use Rattle.fallible_itertools_joins.specs.Sides.{MakesTaken, OfEachSide, by_ordering, call_on_two, join_by, made_of_two, taken_of_two}
-use Rattle.fallible_itertools_joins.specs.declared.zip_longest.EitherOrBoth.{EitherOrBoth}
-use Rattle.fallible_itertools_joins.specs.declared.zip_longest.EitherOrBoth.TheVariants.{Both, Left, Right}
+use Rattle.fallible_itertools_joins.specs.declared.zip.EitherOrBoth.{EitherOrBoth}
+use Rattle.fallible_itertools_joins.specs.declared.zip.EitherOrBoth.TheVariants.{Both, Left, Right}
 
 pub of_each_where_each_implies : {A B : Type 0} (P P' : A → Type 0) (Q Q' : B → Type 0) (z : EitherOrBoth A B) → ((x : A) → P' x → P x) → ((y : B) → Q' y → Q y) → OfEachSide P' Q' z → OfEachSide P Q z
 of_each_where_each_implies P P' Q Q' (Both x y) p q h = (p x h.0, q y h.1)

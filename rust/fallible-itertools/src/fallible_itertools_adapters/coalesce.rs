@@ -1,9 +1,9 @@
-// The adapter that merges adjacent items.
+// The adapters that merge adjacent items, or yield the first of those that are the same.
 
 use crate::base::Turn;
 use crate::fallible_itertools_adapters::staging::{
-    AnswerAndDue, Emitted, Stage, Stop, drive_stage, let_go, next_until, one, stop_answer,
-    with_held,
+    AnswerAndDue, Emitted, Stage, Stop, drawn_until, drive_stage, let_go, next_until, one, put_due,
+    stop_answer, with_held,
 };
 use fallible_iterator::FallibleIterator;
 
@@ -110,5 +110,542 @@ fn by_answer<X, E>(answer: Result<Result<X, (X, X)>, E>) -> (Option<X>, Emitted<
         Ok(Ok(both)) => (Some(both), None),
         Ok(Err((first, second))) => (Some(second), one(Ok(Some(first)))),
         Err(e) => (None, one(Err(e))),
+    }
+}
+
+/// The first of adjacent equal items. It is buffered until an item that differs comes, or a stop: `Ok(None)` or a failure, which the next call returns.
+#[derive(Clone, Debug)]
+#[must_use = "an iterator draws nothing until it is asked"]
+pub struct Dedup<I: FallibleIterator> {
+    pub(crate) it: I,
+    // the first of equal items, which wasn't yielded yet; and the stop that is due: `Ok(None)`, or a failure
+    pub(crate) stage: ((Option<I::Item>, ()), Option<Stop<I::Error>>),
+}
+
+impl<I: FallibleIterator> Dedup<I> {
+    /// Creates it. It draws nothing.
+    #[inline(always)]
+    pub(crate) fn new(it: I) -> Dedup<I> {
+        Dedup {
+            it,
+            stage: ((None, ()), None),
+        }
+    }
+}
+
+// The fold by turns, by which `try_fold` goes.
+impl<I: FallibleIterator> Dedup<I>
+where
+    I::Item: PartialEq,
+{
+    #[inline(always)]
+    fn by_turns<C, R, K: Turn<C, I::Item, R>>(
+        &mut self,
+        state: &mut C,
+        turn: &K,
+    ) -> Result<Option<R>, I::Error> {
+        drive_stage(&mut self.it, &mut self.stage, &DedupStage, state, turn)
+    }
+}
+
+impl<I: FallibleIterator> FallibleIterator for Dedup<I>
+where
+    I::Item: PartialEq,
+{
+    type Item = I::Item;
+
+    type Error = I::Error;
+
+    /// Returns the stop that is due, without a draw. Otherwise it draws until an item differs from the buffered one, or a stop comes.
+    fn next(&mut self) -> Result<Option<I::Item>, I::Error> {
+        match self.stage.1.take() {
+            Some(stop) => stop_answer(stop),
+            None => {
+                // in a local, so that a compiler keeps it in a register
+                let mut held = (self.stage.0.0.take(), ());
+                let (answer, due) = drawn_until(&mut self.it, &mut held, &DedupStage);
+                self.stage.0.0 = held.0;
+                put_due(&mut self.stage.1, due);
+                answer
+            }
+        }
+    }
+
+    fn size_hint(&self) -> (usize, Option<usize>) {
+        match self.stage.1 {
+            Some(None) => (0, Some(0)),
+            _ => with_held(self.it.size_hint(), self.stage.0.0.is_some()),
+        }
+    }
+
+    crate::base::by_drive!(drive);
+}
+
+// What becomes of an item after the buffered one.
+struct DedupStage;
+
+impl<X: PartialEq, E> Stage<(Option<X>, ()), X, E> for DedupStage {
+    type Kept = X;
+
+    type Due = Stop<E>;
+
+    #[inline(always)]
+    fn on_item(&self, p: &mut (Option<X>, ()), item: X) -> Emitted<X, Stop<E>, E> {
+        let (kept, emitted) = match p.0.take() {
+            None => (item, None),
+            Some(first) => {
+                if first == item {
+                    (first, None)
+                } else {
+                    (item, one(Ok(Some(first))))
+                }
+            }
+        };
+        p.0 = Some(kept);
+        emitted
+    }
+
+    #[inline(always)]
+    fn on_stop(&self, p: &mut (Option<X>, ()), stop: Stop<E>) -> Emitted<X, Stop<E>, E> {
+        let_go(p.0.take(), stop)
+    }
+
+    #[inline(always)]
+    fn answer_due(&self, due: Stop<E>) -> AnswerAndDue<X, Stop<E>, E> {
+        (stop_answer(due), None)
+    }
+}
+
+/// The first of adjacent items that the closure finds the same. It is buffered until an item that differs comes, or a stop: `Ok(None)` or a failure, which the next call returns. The closure's failure is a stop.
+#[derive(Clone, Debug)]
+#[must_use = "an iterator draws nothing until it is asked"]
+pub struct DedupBy<I: FallibleIterator, F> {
+    pub(crate) it: I,
+    // the first of items that are the same, which wasn't yielded yet, and the closure; and the stop that is due: `Ok(None)`, or a failure
+    pub(crate) stage: ((Option<I::Item>, F), Option<Stop<I::Error>>),
+}
+
+impl<I: FallibleIterator, F> DedupBy<I, F> {
+    /// Creates it. It draws nothing.
+    #[inline(always)]
+    pub(crate) fn new(it: I, same: F) -> DedupBy<I, F> {
+        DedupBy {
+            it,
+            stage: ((None, same), None),
+        }
+    }
+}
+
+// The fold by turns, by which `try_fold` goes.
+impl<I: FallibleIterator, F: FnMut(&I::Item, &I::Item) -> Result<bool, I::Error>> DedupBy<I, F> {
+    #[inline(always)]
+    fn by_turns<C, R, K: Turn<C, I::Item, R>>(
+        &mut self,
+        state: &mut C,
+        turn: &K,
+    ) -> Result<Option<R>, I::Error> {
+        drive_stage(&mut self.it, &mut self.stage, &SameStage, state, turn)
+    }
+}
+
+impl<I: FallibleIterator, F: FnMut(&I::Item, &I::Item) -> Result<bool, I::Error>> FallibleIterator
+    for DedupBy<I, F>
+{
+    type Item = I::Item;
+
+    type Error = I::Error;
+
+    /// Returns the stop that is due, without a draw. Otherwise it draws until an item differs from the buffered one, or a stop comes.
+    fn next(&mut self) -> Result<Option<I::Item>, I::Error> {
+        next_until(&mut self.it, &mut self.stage, &SameStage)
+    }
+
+    fn size_hint(&self) -> (usize, Option<usize>) {
+        match self.stage.1 {
+            Some(None) => (0, Some(0)),
+            _ => with_held(self.it.size_hint(), self.stage.0.0.is_some()),
+        }
+    }
+
+    crate::base::by_drive!(drive);
+}
+
+// What becomes of an item after the buffered one, by what the closure returns on the two.
+struct SameStage;
+
+impl<X, E, F: FnMut(&X, &X) -> Result<bool, E>> Stage<(Option<X>, F), X, E> for SameStage {
+    type Kept = X;
+
+    type Due = Stop<E>;
+
+    #[inline(always)]
+    fn on_item(&self, p: &mut (Option<X>, F), item: X) -> Emitted<X, Stop<E>, E> {
+        match p.0.take() {
+            None => {
+                p.0 = Some(item);
+                None
+            }
+            Some(first) => {
+                let same = (p.1)(&first, &item);
+                let (kept, emitted) = by_same(first, item, same);
+                p.0 = kept;
+                emitted
+            }
+        }
+    }
+
+    #[inline(always)]
+    fn on_stop(&self, p: &mut (Option<X>, F), stop: Stop<E>) -> Emitted<X, Stop<E>, E> {
+        let_go(p.0.take(), stop)
+    }
+
+    #[inline(always)]
+    fn answer_due(&self, due: Stop<E>) -> AnswerAndDue<X, Stop<E>, E> {
+        (stop_answer(due), None)
+    }
+}
+
+// What is buffered of the two items then, and what is emitted.
+#[inline(always)]
+fn by_same<X, E>(first: X, item: X, same: Result<bool, E>) -> (Option<X>, Emitted<X, Stop<E>, E>) {
+    match same {
+        Ok(true) => (Some(first), None),
+        Ok(false) => (Some(item), one(Ok(Some(first)))),
+        Err(e) => (None, let_go(Some(first), Some(e))),
+    }
+}
+
+/// The first of adjacent items with equal keys. It is buffered, with its key, until an item with another key comes, or a stop, which the next call returns.
+#[derive(Clone, Debug)]
+#[must_use = "an iterator draws nothing until it is asked"]
+pub struct DedupByKey<I: FallibleIterator, K, F> {
+    pub(crate) it: I,
+    // the buffered item with its key, and the closure; and the stop that is due: `Ok(None)`, or a failure
+    pub(crate) stage: ((Option<(K, I::Item)>, F), Option<Stop<I::Error>>),
+}
+
+impl<I: FallibleIterator, K, F> DedupByKey<I, K, F> {
+    /// Creates it. It draws nothing.
+    #[inline(always)]
+    pub(crate) fn new(it: I, f: F) -> DedupByKey<I, K, F> {
+        DedupByKey {
+            it,
+            stage: ((None, f), None),
+        }
+    }
+}
+
+// The fold by turns, by which `try_fold` goes.
+impl<I: FallibleIterator, K: PartialEq, F: FnMut(&I::Item) -> Result<K, I::Error>>
+    DedupByKey<I, K, F>
+{
+    #[inline(always)]
+    fn by_turns<C, R, T: Turn<C, I::Item, R>>(
+        &mut self,
+        state: &mut C,
+        turn: &T,
+    ) -> Result<Option<R>, I::Error> {
+        drive_stage(&mut self.it, &mut self.stage, &KeyStage, state, turn)
+    }
+}
+
+impl<I: FallibleIterator, K: PartialEq, F: FnMut(&I::Item) -> Result<K, I::Error>> FallibleIterator
+    for DedupByKey<I, K, F>
+{
+    type Item = I::Item;
+
+    type Error = I::Error;
+
+    /// Returns the stop that is due, without a draw. Otherwise it draws until an item has another key than the buffered one, or a stop comes.
+    fn next(&mut self) -> Result<Option<I::Item>, I::Error> {
+        next_until(&mut self.it, &mut self.stage, &KeyStage)
+    }
+
+    fn size_hint(&self) -> (usize, Option<usize>) {
+        match self.stage.1 {
+            Some(None) => (0, Some(0)),
+            _ => with_held(self.it.size_hint(), self.stage.0.0.is_some()),
+        }
+    }
+
+    crate::base::by_drive!(drive);
+}
+
+// What becomes of an item by its key.
+struct KeyStage;
+
+impl<X, E, K: PartialEq, F: FnMut(&X) -> Result<K, E>> Stage<(Option<(K, X)>, F), X, E>
+    for KeyStage
+{
+    type Kept = X;
+
+    type Due = Stop<E>;
+
+    #[inline(always)]
+    fn on_item(&self, p: &mut (Option<(K, X)>, F), item: X) -> Emitted<X, Stop<E>, E> {
+        let key = (p.1)(&item);
+        let (kept, emitted) = by_key(p.0.take(), item, key);
+        p.0 = kept;
+        emitted
+    }
+
+    #[inline(always)]
+    fn on_stop(&self, p: &mut (Option<(K, X)>, F), stop: Stop<E>) -> Emitted<X, Stop<E>, E> {
+        let_go(item_of(p.0.take()), stop)
+    }
+
+    #[inline(always)]
+    fn answer_due(&self, due: Stop<E>) -> AnswerAndDue<X, Stop<E>, E> {
+        (stop_answer(due), None)
+    }
+}
+
+// The item without its key.
+#[inline(always)]
+fn item_of<X, K>(held: Option<(K, X)>) -> Option<X> {
+    match held {
+        Some((_key, item)) => Some(item),
+        None => None,
+    }
+}
+
+// What is buffered then, and what is emitted, by the key of the next item.
+#[inline(always)]
+fn by_key<X, E, K: PartialEq>(
+    held: Option<(K, X)>,
+    item: X,
+    key: Result<K, E>,
+) -> (Option<(K, X)>, Emitted<X, Stop<E>, E>) {
+    match (key, held) {
+        (Err(e), held) => (None, let_go(item_of(held), Some(e))),
+        (Ok(key), None) => (Some((key, item)), None),
+        (Ok(key), Some((first_key, first))) => {
+            if first_key == key {
+                (Some((first_key, first)), None)
+            } else {
+                (Some((key, item)), one(Ok(Some(first))))
+            }
+        }
+    }
+}
+
+/// The first of adjacent equal items beside their number. It is buffered until an item that differs comes, or a stop: `Ok(None)` or a failure, which the next call returns.
+#[derive(Clone, Debug)]
+#[must_use = "an iterator draws nothing until it is asked"]
+pub struct DedupWithCount<I: FallibleIterator> {
+    pub(crate) it: I,
+    // the number of equal items so far and the first of them, which wasn't yielded yet; and the stop that is due: `Ok(None)`, or a failure
+    pub(crate) stage: ((Option<(usize, I::Item)>, ()), Option<Stop<I::Error>>),
+}
+
+impl<I: FallibleIterator> DedupWithCount<I> {
+    /// Creates it. It draws nothing.
+    #[inline(always)]
+    pub(crate) fn new(it: I) -> DedupWithCount<I> {
+        DedupWithCount {
+            it,
+            stage: ((None, ()), None),
+        }
+    }
+}
+
+// The fold by turns, by which `try_fold` goes.
+impl<I: FallibleIterator> DedupWithCount<I>
+where
+    I::Item: PartialEq,
+{
+    #[inline(always)]
+    fn by_turns<C, R, K: Turn<C, (usize, I::Item), R>>(
+        &mut self,
+        state: &mut C,
+        turn: &K,
+    ) -> Result<Option<R>, I::Error> {
+        drive_stage(&mut self.it, &mut self.stage, &EqualCount, state, turn)
+    }
+}
+
+impl<I: FallibleIterator> FallibleIterator for DedupWithCount<I>
+where
+    I::Item: PartialEq,
+{
+    type Item = (usize, I::Item);
+
+    type Error = I::Error;
+
+    /// Returns the stop that is due, without a draw. Otherwise it draws until an item differs from the buffered one, or a stop comes.
+    fn next(&mut self) -> Result<Option<(usize, I::Item)>, I::Error> {
+        match self.stage.1.take() {
+            Some(stop) => stop_answer(stop),
+            None => {
+                // in a local, so that a compiler keeps it in registers
+                let mut held = (self.stage.0.0.take(), ());
+                let (answer, due) = drawn_until(&mut self.it, &mut held, &EqualCount);
+                self.stage.0.0 = held.0;
+                put_due(&mut self.stage.1, due);
+                answer
+            }
+        }
+    }
+
+    fn size_hint(&self) -> (usize, Option<usize>) {
+        match self.stage.1 {
+            Some(None) => (0, Some(0)),
+            _ => with_held(self.it.size_hint(), self.stage.0.0.is_some()),
+        }
+    }
+
+    crate::base::by_drive!(drive);
+}
+
+// An item that equals the buffered one is counted.
+struct EqualCount;
+
+impl<X: PartialEq, E> Stage<(Option<(usize, X)>, ()), X, E> for EqualCount {
+    type Kept = (usize, X);
+
+    type Due = Stop<E>;
+
+    #[inline(always)]
+    fn on_item(
+        &self,
+        p: &mut (Option<(usize, X)>, ()),
+        item: X,
+    ) -> Emitted<(usize, X), Stop<E>, E> {
+        let (kept, emitted) = match p.0.take() {
+            None => ((1, item), None),
+            Some((count, first)) => {
+                if first == item {
+                    ((count.saturating_add(1), first), None)
+                } else {
+                    ((1, item), one(Ok(Some((count, first)))))
+                }
+            }
+        };
+        p.0 = Some(kept);
+        emitted
+    }
+
+    #[inline(always)]
+    fn on_stop(
+        &self,
+        p: &mut (Option<(usize, X)>, ()),
+        stop: Stop<E>,
+    ) -> Emitted<(usize, X), Stop<E>, E> {
+        let_go(p.0.take(), stop)
+    }
+
+    #[inline(always)]
+    fn answer_due(&self, due: Stop<E>) -> AnswerAndDue<(usize, X), Stop<E>, E> {
+        (stop_answer(due), None)
+    }
+}
+
+/// The first of adjacent items that the closure finds the same beside their number. It is buffered until an item that differs comes, or a stop: `Ok(None)` or a failure, which the next call returns. The closure's failure is a stop.
+#[derive(Clone, Debug)]
+#[must_use = "an iterator draws nothing until it is asked"]
+pub struct DedupByWithCount<I: FallibleIterator, F> {
+    pub(crate) it: I,
+    // the number of items that are the same so far and the first of them, which wasn't yielded yet, and the closure; and the stop that is due: `Ok(None)`, or a failure
+    pub(crate) stage: ((Option<(usize, I::Item)>, F), Option<Stop<I::Error>>),
+}
+
+impl<I: FallibleIterator, F> DedupByWithCount<I, F> {
+    /// Creates it. It draws nothing.
+    #[inline(always)]
+    pub(crate) fn new(it: I, same: F) -> DedupByWithCount<I, F> {
+        DedupByWithCount {
+            it,
+            stage: ((None, same), None),
+        }
+    }
+}
+
+// The fold by turns, by which `try_fold` goes.
+impl<I: FallibleIterator, F: FnMut(&I::Item, &I::Item) -> Result<bool, I::Error>>
+    DedupByWithCount<I, F>
+{
+    #[inline(always)]
+    fn by_turns<C, R, K: Turn<C, (usize, I::Item), R>>(
+        &mut self,
+        state: &mut C,
+        turn: &K,
+    ) -> Result<Option<R>, I::Error> {
+        drive_stage(&mut self.it, &mut self.stage, &SameCount, state, turn)
+    }
+}
+
+impl<I: FallibleIterator, F: FnMut(&I::Item, &I::Item) -> Result<bool, I::Error>> FallibleIterator
+    for DedupByWithCount<I, F>
+{
+    type Item = (usize, I::Item);
+
+    type Error = I::Error;
+
+    /// Returns the stop that is due, without a draw. Otherwise it draws until an item differs from the buffered one, or a stop comes.
+    fn next(&mut self) -> Result<Option<(usize, I::Item)>, I::Error> {
+        next_until(&mut self.it, &mut self.stage, &SameCount)
+    }
+
+    fn size_hint(&self) -> (usize, Option<usize>) {
+        match self.stage.1 {
+            Some(None) => (0, Some(0)),
+            _ => with_held(self.it.size_hint(), self.stage.0.0.is_some()),
+        }
+    }
+
+    crate::base::by_drive!(drive);
+}
+
+// An item is counted if the closure finds it the same as the buffered one.
+struct SameCount;
+
+impl<X, E, F: FnMut(&X, &X) -> Result<bool, E>> Stage<(Option<(usize, X)>, F), X, E> for SameCount {
+    type Kept = (usize, X);
+
+    type Due = Stop<E>;
+
+    #[inline(always)]
+    fn on_item(&self, p: &mut (Option<(usize, X)>, F), item: X) -> Emitted<(usize, X), Stop<E>, E> {
+        match p.0.take() {
+            None => {
+                p.0 = Some((1, item));
+                None
+            }
+            Some((count, first)) => {
+                let same = (p.1)(&first, &item);
+                let (kept, emitted) = by_same_counted(count, first, item, same);
+                p.0 = kept;
+                emitted
+            }
+        }
+    }
+
+    #[inline(always)]
+    fn on_stop(
+        &self,
+        p: &mut (Option<(usize, X)>, F),
+        stop: Stop<E>,
+    ) -> Emitted<(usize, X), Stop<E>, E> {
+        let_go(p.0.take(), stop)
+    }
+
+    #[inline(always)]
+    fn answer_due(&self, due: Stop<E>) -> AnswerAndDue<(usize, X), Stop<E>, E> {
+        (stop_answer(due), None)
+    }
+}
+
+// What is buffered of the two items then, and what is emitted.
+#[inline(always)]
+fn by_same_counted<X, E>(
+    count: usize,
+    first: X,
+    item: X,
+    same: Result<bool, E>,
+) -> (Option<(usize, X)>, Emitted<(usize, X), Stop<E>, E>) {
+    match same {
+        Ok(true) => (Some((count.saturating_add(1), first)), None),
+        Ok(false) => (Some((1, item)), one(Ok(Some((count, first))))),
+        Err(e) => (None, let_go(Some((count, first)), Some(e))),
     }
 }

@@ -1,4 +1,4 @@
-//! The adapter that yields pairs of items that don't overlap.
+// The adapters that yield items two by two: each item once, or each beside the next.
 
 use crate::base::Turn;
 use crate::base::{Outcome, Pass, drive_passing, kept};
@@ -95,4 +95,125 @@ fn completed<I: FallibleIterator>(
             Err(e)
         }
     }
+}
+
+/// Each two adjacent items, as pairs. The last item is buffered, and the pair has a clone of it.
+#[derive(Clone, Debug)]
+#[must_use = "an iterator draws nothing until it is asked"]
+pub struct TupleWindows<I: FallibleIterator> {
+    pub(crate) it: I,
+    // the last item
+    pub(crate) held: Option<I::Item>,
+}
+
+impl<I: FallibleIterator> TupleWindows<I> {
+    /// Creates it. It draws nothing.
+    #[inline(always)]
+    pub(crate) fn new(it: I) -> TupleWindows<I> {
+        TupleWindows { it, held: None }
+    }
+}
+
+// The fold by turns, by which `try_fold` goes.
+impl<I: FallibleIterator> TupleWindows<I>
+where
+    I::Item: Clone,
+{
+    #[inline(always)]
+    fn by_turns<C, R, K: Turn<C, (I::Item, I::Item), R>>(
+        &mut self,
+        state: &mut C,
+        turn: &K,
+    ) -> Result<Option<R>, I::Error> {
+        drive_passing(&mut self.it, &mut self.held, &WindowPass, state, turn)
+    }
+}
+
+impl<I: FallibleIterator> FallibleIterator for TupleWindows<I>
+where
+    I::Item: Clone,
+{
+    type Item = (I::Item, I::Item);
+
+    type Error = I::Error;
+
+    /// Draws once if an item is buffered, and otherwise until a second item, a failure or an `Ok(None)` comes.
+    fn next(&mut self) -> Result<Option<(I::Item, I::Item)>, I::Error> {
+        match self.held.take() {
+            Some(before) => pair_with_next(&mut self.it, &mut self.held, before),
+            None => match self.it.next() {
+                Ok(Some(first)) => pair_with_next(&mut self.it, &mut self.held, first),
+                Ok(None) => Ok(None),
+                Err(e) => Err(e),
+            },
+        }
+    }
+
+    fn size_hint(&self) -> (usize, Option<usize>) {
+        let (low, high) = self.it.size_hint();
+        if self.held.is_some() {
+            (low, high)
+        } else {
+            (
+                low.saturating_sub(1),
+                high.map(|high| high.saturating_sub(1)),
+            )
+        }
+    }
+
+    crate::base::by_drive!(drive);
+}
+
+// An item after the one before it.
+struct WindowPass;
+
+impl<X: Clone, E> Pass<Option<X>, X, E> for WindowPass {
+    type Kept = (X, X);
+
+    type Answer = Outcome<(X, X), E>;
+
+    #[inline(always)]
+    fn pass(&self, held: &mut Option<X>, item: X) -> Outcome<(X, X), E> {
+        match held.take() {
+            Some(before) => pair(held, before, item),
+            None => {
+                *held = Some(item);
+                Outcome::LeftOut
+            }
+        }
+    }
+}
+
+// One draw after that item.
+fn pair_with_next<I: FallibleIterator>(
+    it: &mut I,
+    held: &mut Option<I::Item>,
+    before: I::Item,
+) -> Result<Option<(I::Item, I::Item)>, I::Error>
+where
+    I::Item: Clone,
+{
+    match it.next() {
+        Ok(Some(x)) => match pair(held, before, x) {
+            Outcome::Kept(both) => Ok(Some(both)),
+            Outcome::LeftOut => unreachable!(),
+            Outcome::Failure(e) => Err(e),
+            Outcome::End => unreachable!(),
+        },
+        Ok(None) => {
+            *held = Some(before);
+            Ok(None)
+        }
+        Err(e) => {
+            *held = Some(before);
+            Err(e)
+        }
+    }
+}
+
+// Both items, the later one as a clone. The later one is buffered then, also if its clone fails.
+fn pair<X: Clone, E>(holds: &mut Option<X>, y: X, x: X) -> Outcome<(X, X), E> {
+    let copy = x.clone();
+    *holds = Some(x);
+    Outcome::Kept((y, copy))
 }

@@ -1,6 +1,6 @@
 //! The adapter that merges the items of many sources by their order.
 
-use crate::fallible_itertools_joins::merge_tree::{MergeTree, give};
+use crate::fallible_itertools_joins::kmerge_by::{MergeTree, give};
 use fallible_iterator::{FallibleIterator, Fuse};
 
 /// The items of many sources, each fused. Of two items the lesser goes first, and of equal ones the earlier source's. A failure of a source is yielded, and loses nothing that is buffered.

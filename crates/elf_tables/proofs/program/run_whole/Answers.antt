@@ -2,7 +2,7 @@
 use Rattle.std.proofs.Common.{rules}
 use Rattle.program_io.specs.Reading.{ReadsAll}
 use Rattle.fallible_elf.specs.Report.{HasSections}
-use Rattle.elf_tables.proofs.RunLemmas.{reported_faulty, sections_where_held}
+use Rattle.elf_tables.proofs.Lemmas.Run.{reported_faulty, sections_where_held}
 use Rattle.elf_tables.proofs.program.run_whole.Goals as goal
 
 pub returns-in-Ok-hand_on-2 : goal.returns-in-Ok-hand_on-2

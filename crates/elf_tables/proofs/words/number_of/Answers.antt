@@ -1,7 +1,7 @@
 -- A digit goes on with the number, and any other byte ends it.
 use Rattle.std.specs.Prelude.{◌≡◌, None}
 use Rattle.std.proofs.Common.{rules, sym, ◌∙◌, arith}
-use Rattle.elf_tables.proofs.WordLemmas.{number_after_digit, number_without_room, number_at_other, number_at_end}
+use Rattle.elf_tables.proofs.Lemmas.Word.{number_after_digit, number_without_room, number_at_other, number_at_end}
 use Rattle.elf_tables.proofs.words.number_of.Goals as goal
 
 pub returns-in_err-digit : goal.returns-in_err-digit

@@ -2,7 +2,7 @@
 use Rattle.std.specs.Prelude.{◌≡◌, false, nat_eq, vec_items}
 use Rattle.std.proofs.Common.{rules}
 use Rattle.fallible_iterator.specs.Lists.{results}
-use Rattle.fallible_itertools.specs.Dedup.{deduped}
+use Rattle.fallible_itertools.specs.Coalesce.{deduped}
 use Rattle.fallible_itertools.proofs.Lemmas.Adjacent.{adjacent_of_collected}
 use Rattle.fallible_itertools.proofs.Lemmas.Dedup.{deduped_differ}
 use Rattle.example_itertools.proofs.ordering.without_repeats.Goals as goal

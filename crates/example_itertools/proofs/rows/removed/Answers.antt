@@ -1,6 +1,6 @@
 -- What both columns list, joined in order, and of that the keys of the left alone.
 use Rattle.std.proofs.Common.{rules, Ok}
-use Rattle.fallible_itertools.specs.ZipLongest.{only_left}
+use Rattle.fallible_itertools.specs.Zip.{only_left}
 use Rattle.example_itertools.proofs.rows.removed.Goals as goal
 
 pub returns : goal.returns

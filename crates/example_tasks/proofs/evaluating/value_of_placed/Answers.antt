@@ -3,8 +3,8 @@ use Rattle.std.proofs.Common.{rules, arith, ap, reverse, vec_capacity, Err}
 use Rattle.fallible_iterator.proofs.Lemmas.Loops.{answers_after_item, answer_at_stop, answer_at_failure, answer_at_end}
 use Rattle.example_tasks.specs.Evaluating.{State}
 use Rattle.example_tasks.specs.Expressions.{after_token, after_token_in}
-use Rattle.example_tasks.proofs.EvaluatingLemmas.{memory_at, placed_ends, placed_fails, placed_goes_on, placed_stops}
-use Rattle.example_tasks.proofs.RoomLemmas.{after_token_in_goes_on, after_token_in_refused, length_fits_outside, fills_outside}
+use Rattle.example_tasks.proofs.Lemmas.Evaluating.{memory_at, placed_ends, placed_fails, placed_goes_on, placed_stops}
+use Rattle.example_tasks.proofs.Lemmas.Room.{after_token_in_goes_on, after_token_in_refused, length_fits_outside, fills_outside}
 use Rattle.example_tasks.proofs.evaluating.value_of_placed.Goals as goal
 
 pub returns-in-Err-clause-value : goal.returns-in-Err-clause-value

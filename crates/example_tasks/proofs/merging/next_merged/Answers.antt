@@ -1,7 +1,7 @@
 -- Each way out is one of the lemmas.
 use Rattle.std.proofs.Common.{rules, ◌≡◌, ◌∙◌, Ok, Err, Some, None, nat_lt, sym}
 use Rattle.fallible_iterator.specs.Lists.{rest_first, rest_if, rest_look, nth_of}
-use Rattle.example_tasks.proofs.MergingLemmas.{gives_failure_of_left, gives_right_alone, gives_failure_of_right, gives_right, gives_left, looked_first}
+use Rattle.example_tasks.proofs.Lemmas.Merging.{gives_failure_of_left, gives_right_alone, gives_failure_of_right, gives_right, gives_left, looked_first}
 use Rattle.example_tasks.proofs.merging.next_merged.Goals as goal
 
 pub returns-in_err-first-clause-value : goal.returns-in_err-first-clause-value

@@ -1,6 +1,6 @@
 -- One digit more is read.
 use Rattle.std.proofs.Common.{rules}
-use Rattle.example_tasks.proofs.TokenLemmas.{reads_digits_one_more}
+use Rattle.example_tasks.proofs.Lemmas.Token.{reads_digits_one_more}
 use Rattle.example_tasks.proofs.tokens.digits_in_front.Goals as goal
 
 pub loop-end-preserved : goal.loop-end-preserved

@@ -1,5 +1,5 @@
 -- A tree's tokens come to its value.
-use Rattle.example_tasks.proofs.GrammarLemmas.{value_of_tokens_written}
+use Rattle.example_tasks.proofs.Lemmas.Grammar.{value_of_tokens_written}
 use Rattle.example_tasks.proofs.tokens.law_written.Goals as goal
 
 pub returns : goal.returns

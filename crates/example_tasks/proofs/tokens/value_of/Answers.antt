@@ -2,7 +2,7 @@
 use Rattle.std.proofs.Common.{rules, arith, vec_capacity, reverse}
 use Rattle.fallible_iterator.specs.Lists.{folded}
 use Rattle.fallible_iterator.proofs.Lemmas.Loops.{answers_after_item, answer_at_stop, answer_at_failure, answer_at_end}
-use Rattle.example_tasks.proofs.RoomLemmas.{value_from_in_goes_on, refused_from, length_fits_outside, fills_outside}
+use Rattle.example_tasks.proofs.Lemmas.Room.{value_from_in_goes_on, refused_from, length_fits_outside, fills_outside}
 use Rattle.example_tasks.proofs.tokens.value_of.Goals as goal
 
 pub returns-in_err-token-clause-value : goal.returns-in_err-token-clause-value

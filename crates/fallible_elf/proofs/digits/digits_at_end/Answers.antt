@@ -2,7 +2,7 @@
 use Rattle.std.proofs.Common.{◌-◌, ◌/◌, drop, sym, ap, ◌∙◌, length-set, drop_of_length-le, arith}
 use Rattle.std.specs.Prelude.{false}
 use Rattle.std.specs.Fmt.{digits_onto}
-use Rattle.fallible_elf.proofs.DigitLemmas.{digits_onto_none, digits_onto_first, digits_onto_next, drop_at_put}
+use Rattle.fallible_elf.proofs.Lemmas.Digit.{digits_onto_none, digits_onto_first, digits_onto_next, drop_at_put}
 use Rattle.fallible_elf.proofs.digits.digits_at_end.Goals as goal
 
 pub loop-at-init : goal.loop-at-init

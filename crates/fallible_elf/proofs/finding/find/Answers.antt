@@ -3,7 +3,7 @@ use Rattle.std.proofs.Common.{subst, inr}
 use Rattle.std.proofs.KnownBytes.{Keeps-refl}
 use Rattle.program_io.specs.Reading.{Fails}
 use Rattle.fallible_elf.specs.Finding.{FindsIn}
-use Rattle.fallible_elf.proofs.FindingLemmas.{finds_in_file, finds_nothing, read_whole, reads_head_finds_fault}
+use Rattle.fallible_elf.proofs.Lemmas.Finding.{finds_in_file, finds_nothing, read_whole, reads_head_finds_fault}
 use Rattle.fallible_elf.proofs.finding.find.Goals as goal
 
 pub returns-in-Ok-Ok : goal.returns-in-Ok-Ok

@@ -2,7 +2,7 @@
 use Rattle.std.specs.Prelude.{◌≡◌, Ok}
 use Rattle.std.proofs.Common.{rules, subst}
 use Rattle.fallible_elf.specs.Report.{IsFound}
-use Rattle.fallible_elf.proofs.FindingLemmas.{range_is_first, no_fault_in_search}
+use Rattle.fallible_elf.proofs.Lemmas.Finding.{range_is_first, no_fault_in_search}
 use Rattle.fallible_elf.proofs.finding.range_at.Goals as goal
 
 pub returns-in-Ok-first_holding-clause-ok : goal.returns-in-Ok-first_holding-clause-ok

@@ -4,7 +4,7 @@ use Rattle.std.proofs.Common.{rules, subst}
 use Rattle.std.proofs.KnownBytes.{Appends-trans}
 use Rattle.std.specs.Io.KnownBytes.{Appends}
 use Rattle.fallible_iterator.proofs.Lemmas.Loops.{answers_after_item, answer_at_failure, answer_at_end}
-use Rattle.fallible_elf.proofs.TextLemmas.{lines_of_more, no_lines, no_lines_at_failure}
+use Rattle.fallible_elf.proofs.Lemmas.Text.{lines_of_more, no_lines, no_lines_at_failure}
 use Rattle.fallible_elf.proofs.lines.write_lines.Goals as goal
 
 pub loop-item-preserved : goal.loop-item-preserved

@@ -1,6 +1,6 @@
 -- The numbers, the name and the newline were written.
 use Rattle.std.proofs.KnownBytes.{Appends-trans}
-use Rattle.program_io.proofs.WritingLemmas.{on_ok_appends_last}
+use Rattle.program_io.proofs.Lemmas.Writing.{on_ok_appends_last}
 use Rattle.fallible_elf.proofs.lines.write_section.Goals as goal
 
 pub returns-clause-text : goal.returns-clause-text

@@ -4,7 +4,7 @@ use Rattle.std.proofs.Common.{rules}
 use Rattle.fallible_iterator.specs.Lists.{numbered}
 use Rattle.fallible_elf.specs.Sections.{headers_of}
 use Rattle.fallible_elf.specs.Text.{sections_text}
-use Rattle.fallible_elf.proofs.TextLemmas.{count_and_lines, lines_of_numbered, number_in, numbered_line, on_ok_table}
+use Rattle.fallible_elf.proofs.Lemmas.Text.{count_and_lines, lines_of_numbered, number_in, numbered_line, on_ok_table}
 use Rattle.fallible_elf.proofs.lines.write_sections.Goals as goal
 
 pub returns-clause-text : goal.returns-clause-text

@@ -7,8 +7,8 @@ use Rattle.fallible_iterator.specs.Showing.{listing}
 use Rattle.fallible_elf.specs.Sets.{sets_in, range_sections}
 use Rattle.fallible_elf.specs.Shown.{shows_sets}
 use Rattle.fallible_elf.specs.Text.{set_line, sets_text}
-use Rattle.fallible_elf.proofs.RangeLemmas.{flattened_mapped}
-use Rattle.fallible_elf.proofs.TextLemmas.{on_ok_table, table_of_lines}
+use Rattle.fallible_elf.proofs.Lemmas.Range.{flattened_mapped}
+use Rattle.fallible_elf.proofs.Lemmas.Text.{on_ok_table, table_of_lines}
 use Rattle.fallible_elf.specs.declared.sets.SectionIn.{SectionIn}
 use Rattle.fallible_elf.proofs.lines.write_sets.Goals as goal
 

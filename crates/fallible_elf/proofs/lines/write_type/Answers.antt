@@ -2,7 +2,7 @@
 use Rattle.std.specs.Prelude.{◌++◌, codes, decimal}
 use Rattle.std.proofs.Common.{append_assoc}
 use Rattle.fallible_elf.specs.Text.{hex}
-use Rattle.fallible_elf.proofs.TextLemmas.{on_ok_last}
+use Rattle.fallible_elf.proofs.Lemmas.Text.{on_ok_last}
 use Rattle.fallible_elf.proofs.lines.write_type.Goals as goal
 
 pub returns-clause-text : goal.returns-clause-text

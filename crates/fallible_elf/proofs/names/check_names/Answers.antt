@@ -4,7 +4,7 @@ use Rattle.std.proofs.Common.{rules, ap, ◌∙◌}
 use Rattle.fallible_iterator.specs.Lists.{on_value}
 use Rattle.fallible_elf.specs.Names.{room_after}
 use Rattle.fallible_elf.specs.Sections.{headers_of}
-use Rattle.fallible_elf.proofs.NameLemmas.{folded_is_names_within, told_of_names, fault_of_names}
+use Rattle.fallible_elf.proofs.Lemmas.Name.{folded_is_names_within, told_of_names, fault_of_names}
 use Rattle.fallible_elf.proofs.names.check_names.Goals as goal
 
 pub returns-in-Ok : goal.returns-in-Ok

@@ -1,6 +1,6 @@
 -- The loop stops at the first 0, or after the last byte.
 use Rattle.std.proofs.Common.{rules, arith}
-use Rattle.fallible_elf.proofs.NameLemmas.{end_is_name_length}
+use Rattle.fallible_elf.proofs.Lemmas.Name.{end_is_name_length}
 use Rattle.fallible_elf.proofs.names.length_of.Goals as goal
 
 pub returns-else-bytes-end-ne0 : goal.returns-else-bytes-end-ne0

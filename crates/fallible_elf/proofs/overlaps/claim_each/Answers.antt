@@ -4,7 +4,7 @@ use Rattle.std.proofs.lemmas.List.{take_more}
 use Rattle.std.specs.Prelude.{List, Err}
 use Rattle.fallible_elf.specs.Overlaps.{MarksAre}
 use Rattle.fallible_elf.specs.declared.section.Section.{Section}
-use Rattle.fallible_elf.proofs.OverlapLemmas.{apart_next, apart_fault, apart_all}
+use Rattle.fallible_elf.proofs.Lemmas.Overlap.{apart_next, apart_fault, apart_all}
 use Rattle.fallible_elf.proofs.overlaps.claim_each.Goals as goal
 
 pub returns : goal.returns

@@ -1,7 +1,7 @@
 -- The bytes of the section were claimed, or it lies outside the file.
 use Rattle.std.proofs.Common.{arith}
 use Rattle.std.proofs.lemmas.Bool.{le-leb, lt-leb}
-use Rattle.fallible_elf.proofs.OverlapLemmas.{claims_section, claims_outside}
+use Rattle.fallible_elf.proofs.Lemmas.Overlap.{claims_section, claims_outside}
 use Rattle.fallible_elf.proofs.overlaps.claim_section.Goals as goal
 use Rattle.fallible_elf.proofs.overlaps.claim_section.Goals.{then-file-place-via-then-file-place, then-file-place-via-else-file-place+then-file-place-2}
 

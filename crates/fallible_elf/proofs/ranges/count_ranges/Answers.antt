@@ -7,7 +7,7 @@ use Rattle.fallible_iterator.specs.Lists.{flattened}
 use Rattle.fallible_iterator.specs.Showing.{listing}
 use Rattle.fallible_elf.specs.Sets.{sets_in, range_sections, ranges_in, saturating_count}
 use Rattle.fallible_elf.specs.Shown.{shows_sets, shows_ranges}
-use Rattle.fallible_elf.proofs.RangeLemmas.{flattened_mapped}
+use Rattle.fallible_elf.proofs.Lemmas.Range.{flattened_mapped}
 use Rattle.fallible_elf.specs.declared.ranges.SetIn.{SetIn}
 use Rattle.fallible_elf.specs.declared.sets.SectionIn.{SectionIn}
 use Rattle.fallible_elf.proofs.ranges.count_ranges.Goals as goal

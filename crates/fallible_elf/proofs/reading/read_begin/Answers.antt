@@ -2,8 +2,8 @@
 use Rattle.std.proofs.Common.{◌≡◌, ◌+◌, ◌∙◌, [], take, sym, subst, arith, length-take-le, inl, inr}
 use Rattle.std.proofs.KnownBytes.{Consumes-nil}
 use Rattle.std.specs.Io.KnownBytes.{Consumes}
-use Rattle.program_io.proofs.ReadingLemmas.{consumes_after, fails_after}
-use Rattle.fallible_elf.proofs.ReadingLemmas.{decided_by_64}
+use Rattle.program_io.proofs.Lemmas.Reading.{consumes_after, fails_after}
+use Rattle.fallible_elf.proofs.Lemmas.Reading.{decided_by_64}
 use Rattle.fallible_elf.proofs.reading.read_begin.Goals as goal
 
 pub loop-init : goal.loop-init

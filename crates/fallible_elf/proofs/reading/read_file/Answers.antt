@@ -1,8 +1,8 @@
 -- The first bytes decide of the header, or the rest was read after them.
 use Rattle.std.proofs.Common.{take, arith}
 use Rattle.std.proofs.lemmas.List.{length-take}
-use Rattle.program_io.proofs.ReadingLemmas.{fails_after}
-use Rattle.fallible_elf.proofs.ReadingLemmas.{reads_head, has_header, consumes_file}
+use Rattle.program_io.proofs.Lemmas.Reading.{fails_after}
+use Rattle.fallible_elf.proofs.Lemmas.Reading.{reads_head, has_header, consumes_file}
 use Rattle.fallible_elf.proofs.reading.read_file.Goals as goal
 
 pub returns-in-Err : goal.returns-in-Err

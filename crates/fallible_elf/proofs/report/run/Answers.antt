@@ -1,5 +1,5 @@
 -- Of a header with a fault nothing is written.
-use Rattle.fallible_elf.proofs.ReportLemmas.{reads_faulty_told}
+use Rattle.fallible_elf.proofs.Lemmas.Report.{reads_faulty_told}
 use Rattle.fallible_elf.proofs.report.run.Goals as goal
 
 pub returns-in-Ok-Err-clause-fault : goal.returns-in-Ok-Err-clause-fault

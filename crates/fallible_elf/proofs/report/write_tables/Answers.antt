@@ -1,7 +1,7 @@
 -- The sections were written, and the sets and ranges where these have no fault.
 use Rattle.std.proofs.Common.{subst}
 use Rattle.fallible_elf.specs.Report.{IsFound}
-use Rattle.fallible_elf.proofs.ReportLemmas.{on_ok_report, report_of_sections}
+use Rattle.fallible_elf.proofs.Lemmas.Report.{on_ok_report, report_of_sections}
 use Rattle.fallible_elf.proofs.report.write_tables.Goals as goal
 
 pub returns-in_ok-write_sets-in-Ok-clause-text : goal.returns-in_ok-write_sets-in-Ok-clause-text

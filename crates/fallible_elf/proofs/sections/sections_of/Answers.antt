@@ -3,7 +3,7 @@ use Rattle.fallible_iterator.specs.Laws.Own.{lists_bounded_by}
 use Rattle.fallible_iterator.specs.Laws.Showing.{lists_shown}
 use Rattle.fallible_iterator.specs.Showing.{listing}
 use Rattle.fallible_elf.specs.Shown.{shows_headers}
-use Rattle.fallible_elf.proofs.SectionLemmas.{headers_from_table, headers_from_fault}
+use Rattle.fallible_elf.proofs.Lemmas.Section.{headers_from_table, headers_from_fault}
 use Rattle.fallible_elf.proofs.sections.sections_of.Goals as goal
 
 pub returns-in-Err-clause-lists : goal.returns-in-Err-clause-lists

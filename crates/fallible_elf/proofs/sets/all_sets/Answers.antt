@@ -6,7 +6,7 @@ use Rattle.fallible_iterator.specs.Laws.Showing.{lists_shown}
 use Rattle.fallible_iterator.specs.Showing.{listing}
 use Rattle.fallible_elf.specs.Sets.{sets_in, range_sections}
 use Rattle.fallible_elf.specs.Shown.{shows_sets}
-use Rattle.fallible_elf.proofs.RangeLemmas.{flattened_mapped, collected_as_same}
+use Rattle.fallible_elf.proofs.Lemmas.Range.{flattened_mapped, collected_as_same}
 use Rattle.fallible_elf.specs.declared.sets.SectionIn.{SectionIn}
 use Rattle.fallible_elf.proofs.sets.all_sets.Goals as goal
 

@@ -1,6 +1,6 @@
 -- The fault of a count is that of the sets, or of the ranges.
 use Rattle.std.proofs.Common.{sym, ◌∙◌}
-use Rattle.fallible_elf.proofs.ReportLemmas.{found_of_uncounted_sets, found_of_uncounted_ranges, told_found}
+use Rattle.fallible_elf.proofs.Lemmas.Report.{found_of_uncounted_sets, found_of_uncounted_ranges, told_found}
 use Rattle.fallible_elf.proofs.tables.counts_of.Goals as goal
 
 pub returns-in_err-sets-clause-fault : goal.returns-in_err-sets-clause-fault

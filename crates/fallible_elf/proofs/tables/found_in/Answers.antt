@@ -2,7 +2,7 @@
 use Rattle.std.proofs.Common.{sym, subst}
 use Rattle.fallible_elf.specs.Report.{HasFound}
 use Rattle.fallible_elf.specs.declared.tables.Found.{Found}
-use Rattle.fallible_elf.proofs.ReportLemmas.{has_found}
+use Rattle.fallible_elf.proofs.Lemmas.Report.{has_found}
 use Rattle.fallible_elf.proofs.tables.found_in.Goals as goal
 
 pub returns-in-Ok-exact-clause-ok : goal.returns-in-Ok-exact-clause-ok

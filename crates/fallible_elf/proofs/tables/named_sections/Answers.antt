@@ -1,8 +1,8 @@
 -- The headers were counted, and their names have room, or not.
 use Rattle.std.proofs.Common.{sym, ◌∙◌}
 use Rattle.fallible_elf.specs.Sections.{headers_of}
-use Rattle.fallible_elf.proofs.CountLemmas.{collected_where_counted, collected_failure_where_counted}
-use Rattle.fallible_elf.proofs.ReportLemmas.{named_sections_of_names, named_sections_faulty, named_sections_of_faulty_headers, told_fault}
+use Rattle.fallible_elf.proofs.Lemmas.Count.{collected_where_counted, collected_failure_where_counted}
+use Rattle.fallible_elf.proofs.Lemmas.Report.{named_sections_of_names, named_sections_faulty, named_sections_of_faulty_headers, told_fault}
 use Rattle.fallible_elf.proofs.tables.named_sections.Goals as goal
 
 pub returns-clause-ok : goal.returns-clause-ok

@@ -1,7 +1,7 @@
 -- The sections are those of their list, and what is said of them is said of the file.
 use Rattle.std.proofs.Common.{ap, sym, ◌∙◌}
 use Rattle.fallible_elf.specs.Overlaps.{apart_check}
-use Rattle.fallible_elf.proofs.ReportLemmas.{collected_is_items, collected_is_fault, ranges_apart_is, ranges_apart_where_ok, ranges_apart_of_faulty_headers}
+use Rattle.fallible_elf.proofs.Lemmas.Report.{collected_is_items, collected_is_fault, ranges_apart_is, ranges_apart_where_ok, ranges_apart_of_faulty_headers}
 use Rattle.fallible_elf.proofs.tables.ranges_apart.Goals as goal
 
 pub returns-in_err-sections-clause-fault : goal.returns-in_err-sections-clause-fault

@@ -1,7 +1,6 @@
 -- An answer from here is one from the beginning. The batch has one item more at each turn.
 use Rattle.fallible_itertools_adapters.specs.Chunks.{chunks_plan, chunks_stops, puts, vec_count}
-use Rattle.fallible_itertools_adapters.specs.Plan.{plan_meets}
-use Rattle.fallible_itertools_adapters.specs.Staging.{DrawsUpTo, stop_comes}
+use Rattle.fallible_itertools_adapters.specs.Staging.{DrawsUpTo, plan_meets, stop_comes}
 use Rattle.fallible_itertools_adapters.proofs.Lemmas.Chunks.{room_of}
 use Rattle.fallible_itertools_adapters.proofs.chunks.filled.Given as goal
 

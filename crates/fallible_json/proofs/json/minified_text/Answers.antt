@@ -1,6 +1,6 @@
 -- The fault of the tokens is told of the text.
 use Rattle.std.proofs.Common.{rules}
-use Rattle.fallible_json.proofs.JsonLemmas.{told_faulty}
+use Rattle.fallible_json.proofs.Lemmas.Json.{told_faulty}
 use Rattle.fallible_json.proofs.json.minified_text.Goals as goal
 
 pub returns-in-Err-Source : goal.returns-in-Err-Source

@@ -1,5 +1,5 @@
 -- By the law of placed tokens.
-use Rattle.fallible_json.proofs.JsonLemmas.{is_json_of_tree, tree_of_json}
+use Rattle.fallible_json.proofs.Lemmas.Json.{is_json_of_tree, tree_of_json}
 use Rattle.fallible_json.proofs.laws.law_json.Goals as goal
 
 pub returns-clause-written : goal.returns-clause-written

@@ -1,5 +1,5 @@
 -- By the runs of bytes that go on with what one begins.
-use Rattle.fallible_json.proofs.PartedLemmas.{lexed_of_spell, spell_of_lexed}
+use Rattle.fallible_json.proofs.Lemmas.Parted.{lexed_of_spell, spell_of_lexed}
 use Rattle.fallible_json.proofs.laws.law_lexed.Goals as goal
 
 pub returns-clause-read : goal.returns-clause-read

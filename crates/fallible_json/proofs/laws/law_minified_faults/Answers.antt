@@ -1,5 +1,5 @@
 -- By what each token makes of the state, and since a text can be ended from each.
-use Rattle.fallible_json.proofs.FaultLemmas.{begins_tree_up_to_failure, ended_begins_tree, unexpected_begins_no_tree}
+use Rattle.fallible_json.proofs.Lemmas.Fault.{begins_tree_up_to_failure, ended_begins_tree, unexpected_begins_no_tree}
 use Rattle.fallible_json.proofs.laws.law_minified_faults.Goals as goal
 
 pub returns-clause-source : goal.returns-clause-source

@@ -1,5 +1,5 @@
 -- By the law of tokens, since in a JSON text each is as long as can be.
-use Rattle.fallible_json.proofs.SpelledJsonLemmas.{is_json_of_spelled, spelled_of_json}
+use Rattle.fallible_json.proofs.Lemmas.SpelledJson.{is_json_of_spelled, spelled_of_json}
 use Rattle.fallible_json.proofs.laws.law_spelled.Goals as goal
 
 pub returns-clause-written : goal.returns-clause-written

@@ -1,5 +1,5 @@
 -- By the tokens of each text, one after the other.
-use Rattle.fallible_json.proofs.TextRunLemmas.{broken_texts, ended_texts, faulty_texts, one_text}
+use Rattle.fallible_json.proofs.Lemmas.TextRun.{broken_texts, ended_texts, faulty_texts, one_text}
 use Rattle.fallible_json.proofs.laws.law_texts.Goals as goal
 
 pub returns-clause-ended : goal.returns-clause-ended

@@ -1,7 +1,7 @@
 -- By induction over the tree, and over the tokens.
-use Rattle.fallible_json.proofs.SameTreeLemmas.{same_tree_of_written}
-use Rattle.fallible_json.proofs.TextLemmas.{text_is_written}
-use Rattle.fallible_json.proofs.TreeLemmas.{is_text_written}
+use Rattle.fallible_json.proofs.Lemmas.SameTree.{same_tree_of_written}
+use Rattle.fallible_json.proofs.Lemmas.Text.{text_is_written}
+use Rattle.fallible_json.proofs.Lemmas.Tree.{is_text_written}
 use Rattle.fallible_json.proofs.laws.law_trees.Goals as goal
 
 pub returns-clause-written : goal.returns-clause-written

@@ -1,5 +1,5 @@
 -- By the states that tokens lead to, of which each can be ended.
-use Rattle.fallible_json.proofs.WantedLemmas.{wanted_at_end, wanted_at_failure, wanted_at_token}
+use Rattle.fallible_json.proofs.Lemmas.Wanted.{wanted_at_end, wanted_at_failure, wanted_at_token}
 use Rattle.fallible_json.proofs.laws.law_wanted.Goals as goal
 
 pub returns-clause-source : goal.returns-clause-source

@@ -3,7 +3,7 @@ use Rattle.std.proofs.Common.{rules, arith, refl}
 use Rattle.fallible_iterator.specs.Laws.Contract.{stays_reflexive}
 use Rattle.fallible_iterator.proofs.Lemmas.Taking.{stays_ahead, stays_transitive}
 use Rattle.fallible_json.specs.Tokens.{goes_on}
-use Rattle.fallible_json.proofs.RunLemmas.{run_ends, run_fails, run_goes_on}
+use Rattle.fallible_json.proofs.Lemmas.Run.{run_ends, run_fails, run_goes_on}
 use Rattle.fallible_json.proofs.lexer.run_of.Goals as goal
 
 pub loop-next-init : goal.loop-next-init

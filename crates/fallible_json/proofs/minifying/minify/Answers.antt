@@ -4,7 +4,7 @@ use Rattle.fallible_iterator.proofs.Lemmas.Loops.{answers_after_item, answer_at_
 use Rattle.fallible_json.specs.Minifying.{ComesFrom, ended, with_wanted}
 use Rattle.fallible_json.specs.Wanted.{wanted_of}
 use Rattle.fallible_json.specs.declared.minifying.Misplaced.TheVariants.{Source, Unexpected}
-use Rattle.fallible_json.proofs.MinifyingLemmas.{minified_ends, minified_fails, minified_goes_on, minified_stops}
+use Rattle.fallible_json.proofs.Lemmas.Minifying.{minified_ends, minified_fails, minified_goes_on, minified_stops}
 use Rattle.fallible_json.proofs.minifying.minify.Goals as goal
 
 pub returns-in-Err : goal.returns-in-Err

@@ -2,7 +2,7 @@
 use Rattle.std.specs.Prelude.{not}
 use Rattle.std.proofs.Common.{rules, ap, ◌≡◌, true, false, get_or}
 use Rattle.fallible_json.specs.Places.{is_within}
-use Rattle.fallible_json.proofs.PlaceLemmas.{counted_all, counted_one_more}
+use Rattle.fallible_json.proofs.Lemmas.Place.{counted_all, counted_one_more}
 use Rattle.fallible_json.proofs.place.chars_in.Goals.{then-not-is_within, else-not-is_within}
 use Rattle.fallible_json.proofs.place.chars_in.Goals as goal
 

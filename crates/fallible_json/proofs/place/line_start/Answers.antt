@@ -2,7 +2,7 @@
 use Rattle.std.proofs.Common.{arith, rules, subst, ap, ◌≡◌, ◌∙◌, ◌+◌, ◌-◌, ◌<◌, ◌==◌, false, length, drop, get_or}
 use Rattle.std.proofs.lemmas.List.{drop_all}
 use Rattle.fallible_json.specs.Places.{lines_in}
-use Rattle.fallible_json.proofs.PlaceLemmas.{count_from}
+use Rattle.fallible_json.proofs.Lemmas.Place.{count_from}
 use Rattle.fallible_json.proofs.place.line_start.Goals as goal
 
 pub loop-at-init : goal.loop-at-init

@@ -1,6 +1,6 @@
 -- A line feed more, or another byte.
 use Rattle.std.proofs.Common.{rules, ◌==◌, true, false}
-use Rattle.fallible_json.proofs.PlaceLemmas.{counted_all, counted_one_more}
+use Rattle.fallible_json.proofs.Lemmas.Place.{counted_all, counted_one_more}
 use Rattle.fallible_json.proofs.place.lines_in.Goals.{then-byte-eq10, else-byte-eq10}
 use Rattle.fallible_json.proofs.place.lines_in.Goals as goal
 

@@ -1,6 +1,6 @@
 -- Those before the place were counted.
 use Rattle.std.proofs.Common.{◌==◌}
-use Rattle.fallible_json.proofs.PlaceLemmas.{Counted}
+use Rattle.fallible_json.proofs.Lemmas.Place.{Counted}
 use Rattle.fallible_json.proofs.place.lines_in.Given as goal
 
 abbrev pub invariant-loop-byte : goal.invariant-loop-byte

@@ -1,7 +1,7 @@
 -- Bytes of one line, and those of several.
 use Rattle.std.proofs.Common.{arith, rules, sym, ap, subst₂, ◌≡◌, ◌∙◌, ◌+◌, ◌-◌, ◌<◌, length, drop, take_all, length-drop}
 use Rattle.fallible_json.specs.Places.{chars_in, lines_in, place_after_bytes}
-use Rattle.fallible_json.proofs.PlaceLemmas.{after_last_line, in_one_line, starts_later}
+use Rattle.fallible_json.proofs.Lemmas.Place.{after_last_line, in_one_line, starts_later}
 use Rattle.fallible_json.proofs.place.place_after_bytes.Goals as goal
 
 pub returns-then-lines-eq0 : goal.returns-then-lines-eq0

@@ -1,6 +1,6 @@
 -- A fault of the texts can be told, and is.
 use Rattle.std.proofs.Common.{inr}
-use Rattle.fallible_json.proofs.ReportLemmas.{can_tell_last}
+use Rattle.fallible_json.proofs.Lemmas.Report.{can_tell_last}
 use Rattle.fallible_json.proofs.report.print_last.Goals as goal
 
 pub tell-requires : goal.tell-requires

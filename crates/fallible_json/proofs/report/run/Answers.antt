@@ -1,7 +1,7 @@
 -- Each turn keeps what the buffer holds, and each end says what was read and written.
 use Rattle.std.proofs.Common.{◌≡◌, ◌+◌, ◌-◌, ◌^◌, ◌++◌, [], length, take, drop, refl, ap, ◌∙◌, arith, length-take, take-add}
-use Rattle.fallible_json.proofs.BufferLemmas.{fault_comes, fits_held, held_read, last_comes, left_held, too_many_comes, part_comes, turn}
-use Rattle.fallible_json.proofs.SoFarLemmas.{nothing_read}
+use Rattle.fallible_json.proofs.Lemmas.Buffer.{fault_comes, fits_held, held_read, last_comes, left_held, too_many_comes, part_comes, turn}
+use Rattle.fallible_json.proofs.Lemmas.SoFar.{nothing_read}
 use Rattle.fallible_json.proofs.report.run.Goals as goal
 
 pub loop-read-init : goal.loop-read-init

@@ -1,6 +1,6 @@
 -- All that was read is taken, but for what the buffer holds; and what is printed of it was written.
 use Rattle.std.proofs.Common.{◌-◌, ◌≤◌, ◌^◌}
-use Rattle.fallible_json.proofs.BufferLemmas.{Holds}
+use Rattle.fallible_json.proofs.Lemmas.Buffer.{Holds}
 use Rattle.fallible_json.proofs.report.run.Given as goal
 
 abbrev pub invariant-loop-read : goal.invariant-loop-read

@@ -1,6 +1,6 @@
 -- Where a byte is no UTF-8, that is the fault after all that was taken.
 use Rattle.std.proofs.Common.{◌+◌, sym, ◌∙◌}
-use Rattle.fallible_json.proofs.ReportLemmas.{fits_after, left_in_part, part_broken, part_taken}
+use Rattle.fallible_json.proofs.Lemmas.Report.{fits_after, left_in_part, part_broken, part_taken}
 use Rattle.fallible_json.proofs.report.take_part.Goals as goal
 
 pub broken-requires : goal.broken-requires

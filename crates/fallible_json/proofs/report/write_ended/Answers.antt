@@ -2,7 +2,7 @@
 use Rattle.std.proofs.Common.{ap, sym, ◌≡◌, ◌∙◌, arith}
 use Rattle.std.specs.Prelude.{not}
 use Rattle.fallible_json.specs.declared.report.Prints.TheVariants as how
-use Rattle.fallible_json.proofs.ReportLemmas.{all_open, sends_ended, some_open}
+use Rattle.fallible_json.proofs.Lemmas.Report.{all_open, sends_ended, some_open}
 use Rattle.fallible_json.proofs.report.write_ended.Goals as goal
 use Rattle.fallible_json.proofs.report.write_ended.Goals.{in-Texts, in-Tokens, then-all, else-all}
 

@@ -1,6 +1,6 @@
 -- A blank adds no token.
 use Rattle.std.proofs.Common.{arith, rules, ◌∙◌, refl}
-use Rattle.fallible_json.proofs.TextTokensLemmas.{lexed_blank_in}
+use Rattle.fallible_json.proofs.Lemmas.TextTokens.{lexed_blank_in}
 use Rattle.fallible_json.proofs.text.blanks_end.Goals as goal
 
 pub loop-at-init : goal.loop-at-init

@@ -1,7 +1,7 @@
 -- A plain byte leaves the phase as it is.
 use Rattle.std.proofs.Common.{arith, rules, ◌∙◌, refl, get_or}
 use Rattle.fallible_json.specs.declared.token.Phase.TheVariants.{Inside}
-use Rattle.fallible_json.proofs.TextTokensLemmas.{plain_goes, run_goes_in}
+use Rattle.fallible_json.proofs.Lemmas.TextTokens.{plain_goes, run_goes_in}
 use Rattle.fallible_json.proofs.text.chars_end.Goals as goal
 
 pub loop-at-init : goal.loop-at-init

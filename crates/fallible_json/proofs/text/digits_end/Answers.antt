@@ -1,6 +1,6 @@
 -- A digit leaves the phase as it is.
 use Rattle.std.proofs.Common.{arith, rules, ◌∙◌, refl}
-use Rattle.fallible_json.proofs.TextTokensLemmas.{run_goes_in}
+use Rattle.fallible_json.proofs.Lemmas.TextTokens.{run_goes_in}
 use Rattle.fallible_json.proofs.text.digits_end.Goals as goal
 
 pub loop-at-init : goal.loop-at-init

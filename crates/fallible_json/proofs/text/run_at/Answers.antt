@@ -2,7 +2,7 @@
 use Rattle.std.proofs.Common.{arith, Some, None, rules, subst, ◌≡◌, ◌≤◌, ◌<◌, refl, get_or, length}
 use Rattle.fallible_json.specs.Bytes.{SameTokens}
 use Rattle.fallible_json.specs.declared.token.Phase.TheVariants.{Whole}
-use Rattle.fallible_json.proofs.TextTokensLemmas.{begun_by_letter, begun_by_sign}
+use Rattle.fallible_json.proofs.Lemmas.TextTokens.{begun_by_letter, begun_by_sign}
 use Rattle.fallible_json.proofs.text.run_at.Goals as goal
 
 pub returns-then-text-first : goal.returns-then-text-first

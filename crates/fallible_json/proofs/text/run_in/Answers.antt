@@ -2,7 +2,7 @@
 use Rattle.std.proofs.Common.{arith, rules, ◌∙◌, refl, get_or}
 use Rattle.fallible_json.specs.declared.token.Phase.TheVariants.{Whole}
 use Rattle.fallible_json.specs.declared.token.Token.TheVariants.{Text}
-use Rattle.fallible_json.proofs.TextTokensLemmas.{quote_goes, run_goes_in, whole_goes}
+use Rattle.fallible_json.proofs.Lemmas.TextTokens.{quote_goes, run_goes_in, whole_goes}
 use Rattle.fallible_json.proofs.text.run_in.Goals as goal
 
 pub loop-phase-init : goal.loop-phase-init

@@ -5,8 +5,8 @@ use Rattle.fallible_iterator.specs.Showing.{TakesShown}
 use Rattle.fallible_json.specs.Bytes.{IsSettled, LeavesAt, placed_from}
 use Rattle.fallible_json.specs.Lexing.{lexed}
 use Rattle.fallible_json.specs.declared.lexer.LexFault.TheVariants.{Unknown}
-use Rattle.fallible_json.proofs.SeenLemmas.{blank_draws, run_draws, run_leaves, run_settled, unknown_draws}
-use Rattle.fallible_json.proofs.TextDrawsLemmas.{draws_alone}
+use Rattle.fallible_json.proofs.Lemmas.Seen.{blank_draws, run_draws, run_leaves, run_settled, unknown_draws}
+use Rattle.fallible_json.proofs.Lemmas.TextDraws.{draws_alone}
 use Rattle.fallible_json.proofs.text.token_at.Goals as goal
 
 pub returns-in-Blank-clause-draws : goal.returns-in-Blank-clause-draws

@@ -2,8 +2,8 @@
 use Rattle.std.proofs.Common.{arith, refl, subst, sym}
 use Rattle.fallible_json.specs.Taking.{IsFront, IsSeenAt}
 use Rattle.fallible_json.specs.declared.lexer.LexFault.TheVariants.{Unknown}
-use Rattle.fallible_json.proofs.FrontLemmas.{front_blank, front_of_fault}
-use Rattle.fallible_json.proofs.SeenLemmas.{left_within, run_after_left, unknown_draws}
+use Rattle.fallible_json.proofs.Lemmas.Front.{front_blank, front_of_fault}
+use Rattle.fallible_json.proofs.Lemmas.Seen.{left_within, run_after_left, unknown_draws}
 use Rattle.fallible_json.proofs.texts.front_at.Goals as goal
 
 pub run_in-end-requires : goal.run_in-end-requires

@@ -3,7 +3,7 @@ use Rattle.std.proofs.Common.{arith, rules, subst, sym, inl, inr, ◌∙◌, ◌
 use Rattle.fallible_json.specs.Taking.{IsFront}
 use Rattle.fallible_json.specs.declared.lexer.LexFault.TheVariants.{Unfinished}
 use Rattle.fallible_json.specs.declared.texts.Front.TheVariants.{Faulty}
-use Rattle.fallible_json.proofs.FrontLemmas.{run_broken, run_cut, run_token, run_word}
+use Rattle.fallible_json.proofs.Lemmas.Front.{run_broken, run_cut, run_token, run_word}
 use Rattle.fallible_json.proofs.texts.front_of.Goals as goal
 
 pub returns-then-bytes-end : goal.returns-then-bytes-end

@@ -1,5 +1,5 @@
 use Rattle.std.proofs.Common.{arith, ap, refl, ◌∙◌, ◌++◌, ◌*◌, ◌+◌}
-use Rattle.fallible_pg.proofs.Base64Lemmas.{group_more}
+use Rattle.fallible_pg.proofs.Lemmas.Base64.{group_more}
 use Rattle.fallible_pg.proofs.base64.base64.Goals as goal
 
 pub loop-group-preserved : goal.loop-group-preserved

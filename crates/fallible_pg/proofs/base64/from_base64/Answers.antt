@@ -2,7 +2,7 @@ use Rattle.std.proofs.Common.{sym, ap, ◌∙◌}
 use Rattle.std.proofs.lemmas.Bool.{both_ways}
 use Rattle.std.proofs.lemmas.Slice.Eq.{bytes_eq-Decides}
 use Rattle.fallible_pg.specs.Base64.{base64}
-use Rattle.fallible_pg.proofs.Base64ReadLemmas.{not_written}
+use Rattle.fallible_pg.proofs.Lemmas.Base64Read.{not_written}
 use Rattle.fallible_pg.proofs.base64.from_base64.Goals as goal
 
 pub returns-else-eq : goal.returns-else-eq

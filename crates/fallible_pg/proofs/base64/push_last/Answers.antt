@@ -1,5 +1,5 @@
 use Rattle.std.proofs.Common.{rules}
-use Rattle.fallible_pg.proofs.Base64Lemmas.{last_none, last_one, last_two}
+use Rattle.fallible_pg.proofs.Lemmas.Base64.{last_none, last_one, last_two}
 use Rattle.fallible_pg.proofs.base64.push_last.Goals as goal
 
 pub returns-then-is_empty : goal.returns-then-is_empty

@@ -1,6 +1,6 @@
 use Rattle.std.proofs.Common.{arith, refl, ◌*◌, ◌+◌}
 use Rattle.std.proofs.lemmas.List.{length-drop}
-use Rattle.fallible_pg.proofs.Base64ReadLemmas.{symbols_more, symbols_end}
+use Rattle.fallible_pg.proofs.Lemmas.Base64Read.{symbols_more, symbols_end}
 use Rattle.fallible_pg.proofs.base64.read_loosely.Goals as goal
 
 pub loop-group-preserved : goal.loop-group-preserved

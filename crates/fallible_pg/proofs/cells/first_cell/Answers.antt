@@ -1,5 +1,5 @@
 use Rattle.std.proofs.Common.{rules, refl}
-use Rattle.fallible_pg.proofs.CellLemmas.{HasLength, finds_short, finds_null, finds_few, finds_cell}
+use Rattle.fallible_pg.proofs.Lemmas.Cell.{HasLength, finds_short, finds_null, finds_few, finds_cell}
 use Rattle.fallible_pg.proofs.cells.first_cell.Goals as goal
 
 pub returns-then-bytes-lt4 : goal.returns-then-bytes-lt4

@@ -1,5 +1,5 @@
 use Rattle.std.proofs.Common.{rules, sym, ◌∙◌}
-use Rattle.fallible_pg.proofs.CellLemmas.{whole_without_cells}
+use Rattle.fallible_pg.proofs.Lemmas.Cell.{whole_without_cells}
 use Rattle.fallible_pg.proofs.cells.is_row.Goals as goal
 
 pub returns : goal.returns

@@ -1,6 +1,6 @@
 -- There are too few bytes for a column, or it is found.
 use Rattle.std.proofs.Common.{refl, ◌+◌, ap, length, drop, arith, ◌∙◌, ℕ}
-use Rattle.fallible_pg.proofs.ColumnLemmas.{finds_no_column, finds_column}
+use Rattle.fallible_pg.proofs.Lemmas.Column.{finds_no_column, finds_column}
 use Rattle.fallible_pg.proofs.columns.first_column.Goals as goal
 
 pub returns-then-bytes-name : goal.returns-then-bytes-name

@@ -1,5 +1,5 @@
 use Rattle.std.proofs.Common.{rules, sym, ◌∙◌}
-use Rattle.fallible_pg.proofs.CsvLemmas.{special_next, special_found, special_none}
+use Rattle.fallible_pg.proofs.Lemmas.Csv.{special_next, special_found, special_none}
 use Rattle.fallible_pg.proofs.csv.has_special.Goals as goal
 
 pub returns-then-is_special : goal.returns-then-is_special

@@ -1,7 +1,7 @@
 use Rattle.std.proofs.Common.{rules, sym, subst}
 use Rattle.std.specs.Io.KnownBytes.{Appends}
 use Rattle.std.proofs.KnownBytes.{Appends-nil, Appends-trans}
-use Rattle.fallible_pg.proofs.CsvLemmas.{doubled-none, doubled-more}
+use Rattle.fallible_pg.proofs.Lemmas.Csv.{doubled-none, doubled-more}
 use Rattle.fallible_pg.proofs.csv.write_doubled.Goals as goal
 
 pub loop-byte-init : goal.loop-byte-init

@@ -1,5 +1,5 @@
 use Rattle.fallible_pg.specs.Rows.{rows_parts}
-use Rattle.fallible_pg.proofs.DrawLemmas.{draws_bytes_of}
+use Rattle.fallible_pg.proofs.Lemmas.Draw.{draws_bytes_of}
 use Rattle.fallible_pg.proofs.laws.law_draw.Goals as goal
 
 pub returns : goal.returns

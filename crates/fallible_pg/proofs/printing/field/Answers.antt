@@ -1,7 +1,7 @@
 use Rattle.std.proofs.Common.{rules, ◌∙◌, ap, arith, length, drop, length-drop, ◌+◌, ◌-◌}
 use Rattle.std.proofs.lemmas.List.{take_all}
 use Rattle.fallible_pg.specs.Strings.{before_zero}
-use Rattle.fallible_pg.proofs.FieldLemmas.{field_next, field_is_text_after_letter, no_field}
+use Rattle.fallible_pg.proofs.Lemmas.Field.{field_next, field_is_text_after_letter, no_field}
 use Rattle.fallible_pg.proofs.printing.field.Goals as goal
 use Rattle.fallible_pg.proofs.printing.field.Goals.{else-begins-via-then-begins+else-byte-letter, else-begins-via-else-begins}
 

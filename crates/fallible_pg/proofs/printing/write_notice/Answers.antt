@@ -2,7 +2,7 @@
 use Rattle.std.proofs.Common.{ap, subst}
 use Rattle.std.specs.Io.KnownBytes.{Appends}
 use Rattle.fallible_pg.specs.Faults.{refusal_text}
-use Rattle.program_io.proofs.WritingLemmas.{on_ok_appends_last}
+use Rattle.program_io.proofs.Lemmas.Writing.{on_ok_appends_last}
 use Rattle.fallible_pg.proofs.printing.write_notice.Goals as goal
 
 pub returns-clause-line : goal.returns-clause-line

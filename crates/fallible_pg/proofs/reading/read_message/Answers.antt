@@ -1,6 +1,6 @@
 -- The first five bytes state the length, and the rest came after them.
 use Rattle.std.proofs.Common.{rules, subst, sym, Err}
-use Rattle.fallible_pg.proofs.ReadingLemmas.{HasHead, tag_broken, tag_read, head_read, head_broken, wrong_length, body_broken, message_read, unsaid}
+use Rattle.fallible_pg.proofs.Lemmas.Reading.{HasHead, tag_broken, tag_read, head_read, head_broken, wrong_length, body_broken, message_read, unsaid}
 use Rattle.fallible_pg.specs.Reading.{ReadsMessage}
 use Rattle.fallible_pg.specs.declared.reading.Broken.{Broken}
 use Rattle.fallible_pg.proofs.reading.read_message.Goals as goal

@@ -6,7 +6,7 @@ use Rattle.fallible_pg.specs.declared.rows.Reply.{Reply}
 use Rattle.program_io.specs.declared.fault.RunFault.{RunFault}
 use Rattle.fallible_pg.specs.Report.{ComesTo, as_run_fault}
 use Rattle.fallible_pg.specs.declared.printing.PgInput.{PgInput}
-use Rattle.fallible_pg.proofs.PrintLemmas.{printed_first, printed_reply, comes_to_put, comes_to, reads_fault_outcome, no_fault_writes}
+use Rattle.fallible_pg.proofs.Lemmas.Print.{printed_first, printed_reply, comes_to_put, comes_to, reads_fault_outcome, no_fault_writes}
 use Rattle.fallible_pg.proofs.report.print_rows.Goals as goal
 
 pub loop-init : goal.loop-init

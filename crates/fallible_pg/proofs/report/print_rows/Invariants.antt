@@ -1,7 +1,7 @@
 -- The text of the rows that came was written, and that of the notices told.
 use Rattle.fallible_pg.specs.Rows.{rows_parts}
 use Rattle.fallible_pg.specs.Text.{form_of}
-use Rattle.fallible_pg.proofs.PrintLemmas.{Printed}
+use Rattle.fallible_pg.proofs.Lemmas.Print.{Printed}
 use Rattle.fallible_pg.proofs.report.print_rows.Given as goal
 
 abbrev pub invariant-loop : goal.invariant-loop

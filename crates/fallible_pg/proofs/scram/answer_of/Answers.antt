@@ -2,7 +2,7 @@ use Rattle.std.proofs.Common.{◌≡◌, ℕ, List, Some, None, MatchOption, vec
 use Rattle.std.proofs.lemmas.Bool.{both_ways}
 use Rattle.fallible_pg.specs.Base64.{base64}
 use Rattle.fallible_pg.specs.Scram.{rounds_of}
-use Rattle.fallible_pg.proofs.ScramLemmas.{asks_well, asked_parts, counts, goes_on, salt_is, test_fails}
+use Rattle.fallible_pg.proofs.Lemmas.Scram.{asks_well, asked_parts, counts, goes_on, salt_is, test_fails}
 use Rattle.fallible_pg.proofs.scram.answer_of.Goals.{then-not-branch-via-then-not-branch, then-not-branch-via-else-not-branch+then-not-goes_on_from}
 use Rattle.fallible_pg.proofs.scram.answer_of.Goals as goal
 

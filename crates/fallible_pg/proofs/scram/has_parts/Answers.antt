@@ -1,5 +1,5 @@
 use Rattle.std.proofs.Common.{◌∙◌}
-use Rattle.fallible_pg.proofs.ScramLemmas.{parts_test}
+use Rattle.fallible_pg.proofs.Lemmas.Scram.{parts_test}
 use Rattle.fallible_pg.proofs.scram.has_parts.Goals as goal
 
 pub returns : goal.returns

@@ -1,4 +1,4 @@
-use Rattle.fallible_pg.proofs.ScramLemmas.{no_number}
+use Rattle.fallible_pg.proofs.Lemmas.Scram.{no_number}
 use Rattle.fallible_pg.proofs.scram.number_in.Goals as goal
 
 pub returns-in-Err : goal.returns-in-Err

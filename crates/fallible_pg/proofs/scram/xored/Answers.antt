@@ -1,5 +1,5 @@
 use Rattle.std.proofs.Common.{◌∙◌}
-use Rattle.fallible_pg.proofs.ScramLemmas.{xored-none, xored-more}
+use Rattle.fallible_pg.proofs.Lemmas.Scram.{xored-none, xored-more}
 use Rattle.fallible_pg.proofs.scram.xored.Goals as goal
 
 pub loop-place-init : goal.loop-place-init

@@ -1,5 +1,5 @@
 use Rattle.std.proofs.Common.{rules}
-use Rattle.fallible_pg.proofs.StringLemmas.{mark_next, takes_up_to_mark, no_mark}
+use Rattle.fallible_pg.proofs.Lemmas.String.{mark_next, takes_up_to_mark, no_mark}
 use Rattle.fallible_pg.proofs.strings.before.Goals as goal
 
 pub returns-then-bytes-place : goal.returns-then-bytes-place

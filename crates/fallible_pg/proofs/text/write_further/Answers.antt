@@ -5,7 +5,7 @@ use Rattle.fallible_iterator.specs.Own.{LowersAtItem}
 use Rattle.fallible_pg.specs.Cells.{shows_cells, TakesCell}
 use Rattle.fallible_pg.specs.Text.{drawn_text, form_of, further_text, separator}
 use Rattle.fallible_pg.specs.declared.fault.Damage.{Damage}
-use Rattle.fallible_pg.proofs.TextLemmas.{further_text_at_item, further_none, appends_rest, on_ok_then}
+use Rattle.fallible_pg.proofs.Lemmas.Text.{further_text_at_item, further_none, appends_rest, on_ok_then}
 use Rattle.fallible_pg.proofs.text.write_further.Goals as goal
 
 pub loop-init : goal.loop-init

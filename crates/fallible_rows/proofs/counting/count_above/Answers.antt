@@ -10,10 +10,10 @@ use Rattle.fallible_rows.specs.RowTraces.{rows_made}
 use Rattle.fallible_rows.specs.Laws.RowTraces.{lawful_rows}
 use Rattle.fallible_rows.specs.Counting.{CountsPrefix}
 use Rattle.fallible_rows.specs.Run.{FailsReading}
-use Rattle.fallible_rows.proofs.ChainLemmas.{chain_reads}
-use Rattle.fallible_rows.proofs.FailingLemmas.{fails_of_result, fails_lent}
-use Rattle.fallible_rows.proofs.ReportLemmas.{row_limit-is}
-use Rattle.fallible_rows.proofs.PrefixLemmas.{counts_prefix_of_result, name_kept_by_reads}
+use Rattle.fallible_rows.proofs.Lemmas.Chain.{chain_reads}
+use Rattle.fallible_rows.proofs.Lemmas.Failing.{fails_of_result, fails_lent}
+use Rattle.fallible_rows.proofs.Lemmas.Report.{row_limit-is}
+use Rattle.fallible_rows.proofs.Lemmas.Prefix.{counts_prefix_of_result, name_kept_by_reads}
 use Rattle.fallible_rows.proofs.counting.count_above.Goals as goal
 use Rattle.program_io.specs.declared.reading.Lent.{Lent}
 

@@ -1,6 +1,6 @@
 use Rattle.std.proofs.Common.{◌≤◌, ◌<◌, ◌∙◌, arith, subst, length}
 use Rattle.fallible_rows.specs.Digits.{HasNumberAhead}
-use Rattle.fallible_rows.proofs.RowLemmas.{AllDigits-more, digits_value-next, digits_value_ahead, number_ahead-is}
+use Rattle.fallible_rows.proofs.Lemmas.Row.{AllDigits-more, digits_value-next, digits_value_ahead, number_ahead-is}
 use Rattle.fallible_rows.proofs.digits.number_ahead.Goals as goal
 
 pub overflow_mul-value : goal.overflow_mul-value

@@ -1,7 +1,7 @@
 use Rattle.std.proofs.Common.{◌+◌, ℕ, List, take, subst, arith}
 use Rattle.program_io.specs.Bytes.{GivesBytes}
 use Rattle.fallible_rows.specs.Digits.{HasNumberAhead}
-use Rattle.fallible_rows.proofs.TraceLemmas.{reads_row_ahead}
+use Rattle.fallible_rows.proofs.Lemmas.Trace.{reads_row_ahead}
 use Rattle.fallible_rows.proofs.rows.read_row.Goals as goal
 
 pub returns-then-length-limit : goal.returns-then-length-limit

@@ -2,7 +2,7 @@ use Rattle.std.proofs.Common.{◌≢◌, ℕ, ◌++◌, ◌∷◌, [], Option, O
 use Rattle.std.proofs.lemmas.Fn.{FoldsTo-push}
 use Rattle.std.proofs.lemmas.List.{length_push}
 use Rattle.program_io.specs.Bytes.{GivesByte, ReadsOne}
-use Rattle.fallible_rows.proofs.TraceLemmas.{is_one_row_one_more}
+use Rattle.fallible_rows.proofs.Lemmas.Trace.{is_one_row_one_more}
 use Rattle.program_io.specs.declared.reading.ReadFailed.{ReadFailed}
 use Rattle.fallible_rows.proofs.rows.read_row_by_byte.Goals as goal
 

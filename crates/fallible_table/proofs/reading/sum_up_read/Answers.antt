@@ -1,7 +1,7 @@
 -- What was read is summed up, as far as it goes.
 use Rattle.std.proofs.Common.{rules, ◌≡◌, ◌+◌, ◌^◌, ◌<◌, ◌≤◌, ◌∙◌, take, length, sym, subst, arith, inl, inr}
-use Rattle.program_io.proofs.ReadingLemmas.{fails_after}
-use Rattle.fallible_table.proofs.ReadingLemmas.{ReadSoFar, FilledSoFar, nothing_read, so_far_after_read, so_far_after_failure, added_records, read_and_added, read_bad, reads_totals_at_end, read_to_end, none_bad_yet, yields_many}
+use Rattle.program_io.proofs.Lemmas.Reading.{fails_after}
+use Rattle.fallible_table.proofs.Lemmas.Reading.{ReadSoFar, FilledSoFar, nothing_read, so_far_after_read, so_far_after_failure, added_records, read_and_added, read_bad, reads_totals_at_end, read_to_end, none_bad_yet, yields_many}
 use Rattle.fallible_table.proofs.reading.sum_up_read.Goals as goal
 
 pub loop-read-init : goal.loop-read-init

@@ -1,6 +1,6 @@
 -- Whole records are added up, and fewer bytes than one has are held.
 use Rattle.std.proofs.Common.{◌≡◌, ◌+◌, ◌*◌, ◌<◌, ◌≤◌, length, take}
-use Rattle.fallible_table.proofs.ReadingLemmas.{ReadSoFar}
+use Rattle.fallible_table.proofs.Lemmas.Reading.{ReadSoFar}
 use Rattle.fallible_table.proofs.reading.sum_up_read.Given as goal
 
 abbrev pub invariant-loop-read : goal.invariant-loop-read

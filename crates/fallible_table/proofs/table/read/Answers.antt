@@ -2,7 +2,7 @@
 use Rattle.std.proofs.Common.{refl}
 use Rattle.fallible_iterator.proofs.Lemmas.Lists.Passing.{lists_seen}
 use Rattle.fallible_table.specs.Tables.{DrawsRecord}
-use Rattle.fallible_table.proofs.TableLemmas.{always_gives_records}
+use Rattle.fallible_table.proofs.Lemmas.Table.{always_gives_records}
 use Rattle.fallible_table.proofs.table.read.Goals as goal
 use Rattle.fallible_table.specs.declared.table.Records.{Records}
 

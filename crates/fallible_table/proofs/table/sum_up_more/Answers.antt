@@ -1,6 +1,6 @@
 -- The part's sum is added to what is known.
 use Rattle.std.proofs.Common.{◌∙◌, sym, ap, arith, Ok, Err}
-use Rattle.fallible_table.proofs.TotalsLemmas.{Sum, after_known, totals_after_known, fault_within}
+use Rattle.fallible_table.proofs.Lemmas.Totals.{Sum, after_known, totals_after_known, fault_within}
 use Rattle.fallible_table.specs.declared.table.TableFault.{TableFault}
 use Rattle.fallible_table.specs.declared.table.Totals.{Totals}
 use Rattle.fallible_table.proofs.table.sum_up_more.Goals as goal

@@ -2,7 +2,7 @@ use Rattle.std.proofs.Common.{rules, sym, ap, ◌∙◌}
 use Rattle.std.specs.Vec.Iter.{into_iter_items}
 use Rattle.program_io.specs.declared.arguments.Asked.{Asked}
 use Rattle.pg_rows.specs.declared.words.Wanted.{Wanted}
-use Rattle.pg_rows.proofs.WordLemmas.{nil_of, from_none, from_asking, from_csv, from_null, from_input}
+use Rattle.pg_rows.proofs.Lemmas.Word.{nil_of, from_none, from_asking, from_csv, from_null, from_input}
 use Rattle.pg_rows.proofs.words.+wanted_from.Goals as goal
 
 pub returns-in_default : goal.returns-in_default

@@ -5,7 +5,7 @@ use Rattle.std.proofs.KnownBytes.{Appends-trans}
 use Rattle.std.specs.Io.KnownBytes.{Appends}
 use Rattle.program_io.specs.Arguments.{reason_text}
 use Rattle.program_io.specs.Showing.{shown}
-use Rattle.program_io.proofs.WritingLemmas.{on_ok_appends_last}
+use Rattle.program_io.proofs.Lemmas.Writing.{on_ok_appends_last}
 use Rattle.program_io.proofs.arguments.write_unopened.Goals as goal
 
 pub returns-clause-text : goal.returns-clause-text

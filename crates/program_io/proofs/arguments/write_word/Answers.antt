@@ -1,5 +1,5 @@
 -- The word was written, and then the usage text.
-use Rattle.program_io.proofs.WritingLemmas.{on_ok_appends_last}
+use Rattle.program_io.proofs.Lemmas.Writing.{on_ok_appends_last}
 use Rattle.program_io.proofs.arguments.write_word.Goals as goal
 
 pub returns-clause-text : goal.returns-clause-text

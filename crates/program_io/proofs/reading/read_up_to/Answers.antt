@@ -2,7 +2,7 @@
 use Rattle.std.proofs.Common.{rules, ◌-◌, length, [], ◌++◌, refl, sym, ◌∙◌, ap, append_assoc, append-nil, arith}
 use Rattle.std.proofs.lemmas.List.{length-append}
 use Rattle.program_io.specs.Bytes.{GivesByte}
-use Rattle.program_io.proofs.ReadingLemmas.{folds_to_append, reads_up_to_broken}
+use Rattle.program_io.proofs.Lemmas.Reading.{folds_to_append, reads_up_to_broken}
 use Rattle.program_io.proofs.reading.read_up_to.Goals as goal
 
 pub loop-init : goal.loop-init

@@ -5,7 +5,7 @@ use Rattle.fallible_iterator.specs.Laws.Peeking.Peekable.{lawful_peekable}
 use Rattle.fallible_iterator.specs.Peeking.Peekable.{peekable_made}
 use Rattle.example_tasks.specs.Lexing.{token_rules}
 use Rattle.fallible_itertools.proofs.Lemmas.Lexing.{ends_lexed, fails_lexed, takes_alone, takes_token}
-use Rattle.example_tasks.proofs.LexingLemmas.{begins_none, begins_of_kind, takes_value}
+use Rattle.example_tasks.proofs.Lemmas.Lexing.{begins_none, begins_of_kind, takes_value}
 use Rattle.example_tasks.proofs.lexing.LexerFallibleIterator.next.Goals as goal
 
 pub returns-in-Ok-None : goal.returns-in-Ok-None

@@ -1,5 +1,5 @@
 -- A book returns its pages.
-use Rattle.example_tasks.proofs.PageLemmas.{answers_book_pages}
+use Rattle.example_tasks.proofs.Lemmas.Page.{answers_book_pages}
 use Rattle.example_tasks.proofs.pages.Book.new.Goals as goal
 
 pub returns : goal.returns

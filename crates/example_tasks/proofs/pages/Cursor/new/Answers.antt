@@ -1,6 +1,6 @@
 -- A cursor lists the rows of the book.
 use Rattle.std.proofs.Common.{rules}
-use Rattle.example_tasks.proofs.PageLemmas.{lists_book}
+use Rattle.example_tasks.proofs.Lemmas.Page.{lists_book}
 use Rattle.example_tasks.proofs.pages.Cursor.new.Goals as goal
 
 pub returns-clause-lists : goal.returns-clause-lists

@@ -2,7 +2,7 @@
 use Rattle.std.proofs.Common.{rules, ap, ◌∙◌}
 use Rattle.fallible_iterator.specs.Lists.{result_answer}
 use Rattle.example_tasks.specs.Expressions.{number_token}
-use Rattle.example_tasks.proofs.TokenLemmas.{takes_shown_end, takes_shown_sign, takes_shown_number}
+use Rattle.example_tasks.proofs.Lemmas.Token.{takes_shown_end, takes_shown_sign, takes_shown_number}
 use Rattle.example_tasks.proofs.tokens.TokensFallibleIterator.next.Goals as goal
 
 pub returns-in_default : goal.returns-in_default

@@ -1,6 +1,6 @@
 -- A range is the first of what is shown, and where the room ends the fault.
 use Rattle.std.proofs.Common.{rules, arith, ◌-◌}
-use Rattle.fallible_elf.proofs.RangeLemmas.{takes_shown_fault, takes_shown_end, takes_shown_last, takes_shown_range}
+use Rattle.fallible_elf.proofs.Lemmas.Range.{takes_shown_fault, takes_shown_end, takes_shown_last, takes_shown_range}
 use Rattle.fallible_elf.proofs.ranges.RangesFallibleIterator.next.Goals as goal
 
 pub returns-in-Some : goal.returns-in-Some

@@ -1,6 +1,6 @@
 -- A header is the first of what is shown, and after the last one the fault.
 use Rattle.std.proofs.Common.{rules, arith}
-use Rattle.fallible_elf.proofs.SectionLemmas.{takes_shown_fault, takes_shown_end, takes_shown_header}
+use Rattle.fallible_elf.proofs.Lemmas.Section.{takes_shown_fault, takes_shown_end, takes_shown_header}
 use Rattle.fallible_elf.proofs.sections.SectionsFallibleIterator.next.Goals as goal
 
 pub returns-in-Some : goal.returns-in-Some

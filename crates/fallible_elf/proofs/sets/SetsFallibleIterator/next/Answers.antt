@@ -1,6 +1,6 @@
 -- A set is the first of what is shown, and after the last one the fault.
 use Rattle.std.proofs.Common.{rules}
-use Rattle.fallible_elf.proofs.SetLemmas.{takes_shown_fault, takes_shown_end, takes_shown_set, takes_shown_damaged_set}
+use Rattle.fallible_elf.proofs.Lemmas.Set.{takes_shown_fault, takes_shown_end, takes_shown_set, takes_shown_damaged_set}
 use Rattle.fallible_elf.proofs.sets.SetsFallibleIterator.next.Goals as goal
 
 pub returns-in-Some : goal.returns-in-Some

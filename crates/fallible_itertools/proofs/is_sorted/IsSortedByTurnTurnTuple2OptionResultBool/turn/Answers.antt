@@ -2,7 +2,7 @@
 use Rattle.std.specs.Prelude.{Some, Ok, Err}
 use Rattle.std.proofs.Common.{ap, refl}
 use Rattle.std.specs.declared.ops.ControlFlow.TheVariants.{Break}
-use Rattle.fallible_itertools_adapters.specs.DedupBy.{same_call}
+use Rattle.fallible_itertools_adapters.specs.Coalesce.{same_call}
 use Rattle.fallible_itertools.specs.IsSorted.{pair_step}
 use Rattle.fallible_itertools.proofs.Lemmas.Stepping.{made_at}
 use Rattle.fallible_itertools.proofs.is_sorted.IsSortedByTurnTurnTuple2OptionResultBool.turn.Goals as goal

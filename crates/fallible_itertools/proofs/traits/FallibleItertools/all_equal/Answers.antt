@@ -1,6 +1,6 @@
 -- The fold by the step, what it makes of a list, and what it leaves.
 use Rattle.fallible_iterator.specs.Laws.Contract.{stays_run}
-use Rattle.fallible_itertools_adapters.specs.Plan.{calls_nothing}
+use Rattle.fallible_itertools_adapters.specs.Staging.{calls_nothing}
 use Rattle.fallible_itertools.specs.Equal.{equal_to_first, rest_unequal}
 use Rattle.fallible_itertools.proofs.Lemmas.Stepping.{consumed_of_lists, consumes_by_drive, lists_rest_stepped}
 use Rattle.fallible_itertools.proofs.traits.FallibleItertools.all_equal.Goals as goal

@@ -2,7 +2,7 @@
 use Rattle.std.specs.Prelude.{◌≡◌, Option, Some, None, Result, Ok, Err}
 use Rattle.std.proofs.Common.{sym, ◌∙◌}
 use Rattle.fallible_iterator.specs.Laws.Contract.{stays_run}
-use Rattle.fallible_itertools_adapters.specs.Plan.{calls_nothing}
+use Rattle.fallible_itertools_adapters.specs.Staging.{calls_nothing}
 use Rattle.fallible_itertools.specs.Equal.{equal_value, first_or_both, rest_unequal}
 use Rattle.fallible_itertools.proofs.Lemmas.Stepping.{consumed_of_lists, consumes_by_drive, lists_rest_stepped}
 use Rattle.fallible_itertools.proofs.traits.FallibleItertools.all_equal_value.Goals as goal

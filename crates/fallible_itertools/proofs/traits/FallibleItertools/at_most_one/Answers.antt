@@ -1,6 +1,6 @@
 -- One draw decides, or the second one does.
 use Rattle.std.proofs.Common.{refl, Ok, Some, None, Err}
-use Rattle.fallible_itertools.proofs.Lemmas.AtMostOne.{at_most_one_drains_by_one_draw, at_most_one_drains_by_two_draws, at_most_one_of_lists, lists_rest_after_two}
+use Rattle.fallible_itertools.proofs.Lemmas.Find.{at_most_one_drains_by_one_draw, at_most_one_drains_by_two_draws, at_most_one_of_lists, lists_rest_after_two}
 use Rattle.fallible_itertools.proofs.traits.FallibleItertools.at_most_one.Goals as goal
 
 pub returns-in-Ok-None-clause-drawn : goal.returns-in-Ok-None-clause-drawn

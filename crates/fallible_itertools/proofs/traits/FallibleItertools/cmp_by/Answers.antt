@@ -1,8 +1,8 @@
 -- The loop of rounds by the closure's orders is the comparison, which finds an order.
 use Rattle.fallible_iterator.specs.Folds.{call_with}
 use Rattle.fallible_iterator.proofs.Lemmas.Comparing.{either_or_ends_by_one_of}
-use Rattle.fallible_itertools.specs.CmpBy.{ordered_by}
-use Rattle.fallible_itertools.proofs.Lemmas.CmpBy.{cmp_by_never_answers_none, turns_as_of_cmp_where_acts, compared_by_of_lists}
+use Rattle.fallible_itertools.specs.Equal.{ordered_by}
+use Rattle.fallible_itertools.proofs.Lemmas.Equal.{cmp_by_never_answers_none, turns_as_of_cmp_where_acts, compared_by_of_lists}
 use Rattle.fallible_itertools.proofs.traits.FallibleItertools.cmp_by.Goals as goal
 
 pub compare_by-answer-requires-clause-right : goal.compare_by-answer-requires-clause-right

@@ -1,7 +1,7 @@
 -- The fold whose state is the collection, up to the first failure.
 use Rattle.std.proofs.Common.{inl, refl}
 use Rattle.fallible_iterator.specs.Laws.Contract.{stays_run}
-use Rattle.fallible_itertools.proofs.Lemmas.UntilFailure.{collects_until_by_fold, collected_until_of_lists, lists_rest_failure}
+use Rattle.fallible_itertools.proofs.Lemmas.Partition.{collects_until_by_fold, collected_until_of_lists, lists_rest_failure}
 use Rattle.fallible_itertools.proofs.traits.FallibleItertools.collect_until_failure.Goals as goal
 
 pub returns-clause-collects : goal.returns-clause-collects

@@ -2,9 +2,9 @@
 use Rattle.std.specs.Prelude.{◌≡◌, Ok, Err, None}
 use Rattle.std.specs.HashMap.{get, spare}
 use Rattle.fallible_iterator.proofs.Lemmas.Lists.Drawn.{collected_of_lists}
-use Rattle.fallible_itertools.specs.Counts.{IsCountsOf}
+use Rattle.fallible_itertools.specs.Keyed.{IsCountsOf}
 use Rattle.fallible_itertools.proofs.Lemmas.Contents.{contents_of_collected}
-use Rattle.fallible_itertools.proofs.Lemmas.Counts.{collects_all_counted, collects_fault_of_counts}
+use Rattle.fallible_itertools.proofs.Lemmas.Keyed.{collects_all_counted, collects_fault_of_counts}
 use Rattle.fallible_itertools.proofs.traits.FallibleItertools.counts.Goals as goal
 
 pub returns-in-Ok-clause-collects : goal.returns-in-Ok-clause-collects

@@ -3,7 +3,7 @@ use Rattle.std.specs.Prelude.{◌^◌, ◌-◌}
 use Rattle.std.proofs.Common.{subst, sym}
 use Rattle.fallible_iterator.specs.Contract.{AtMost}
 use Rattle.fallible_iterator.specs.OneToOne.Map.{map_parts, map_contract}
-use Rattle.fallible_itertools.proofs.Lemmas.PartitionMap.{collects_of_view_where_view_is_known}
+use Rattle.fallible_itertools.proofs.Lemmas.Partition.{collects_of_view_where_view_is_known}
 use Rattle.fallible_itertools.proofs.traits.FallibleItertools.counts_by.Goals as goal
 
 pub counts-requires-clause-can_next : goal.counts-requires-clause-can_next

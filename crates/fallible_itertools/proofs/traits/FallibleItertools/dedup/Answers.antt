@@ -1,5 +1,5 @@
 -- What is made of the source's list.
-use Rattle.fallible_itertools_adapters.proofs.Lemmas.Dedup.{lists_deduped}
+use Rattle.fallible_itertools_adapters.proofs.Lemmas.Coalesce.{lists_deduped}
 use Rattle.fallible_itertools.proofs.traits.FallibleItertools.dedup.Goals as goal
 
 pub returns-clause-lists : goal.returns-clause-lists

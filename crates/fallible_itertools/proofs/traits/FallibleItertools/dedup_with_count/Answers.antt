@@ -1,5 +1,5 @@
 -- What is made of the source's list.
-use Rattle.fallible_itertools_adapters.proofs.Lemmas.RunCounts.{lists_deduped_with_count}
+use Rattle.fallible_itertools_adapters.proofs.Lemmas.Coalesce.{lists_deduped_with_count}
 use Rattle.fallible_itertools.proofs.traits.FallibleItertools.dedup_with_count.Goals as goal
 
 pub returns-clause-lists : goal.returns-clause-lists

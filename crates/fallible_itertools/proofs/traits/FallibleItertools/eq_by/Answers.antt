@@ -3,8 +3,8 @@ use Rattle.std.proofs.Common.{ap, ◌∙◌}
 use Rattle.fallible_iterator.specs.Comparing.{read_as, reads_eq}
 use Rattle.fallible_iterator.specs.Folds.{call_with}
 use Rattle.fallible_iterator.proofs.Lemmas.Comparing.{either_or_ends_by_one_of}
-use Rattle.fallible_itertools.specs.CmpBy.{equal_by}
-use Rattle.fallible_itertools.proofs.Lemmas.CmpBy.{turns_as_of_eq_where_acts, compared_by_of_lists}
+use Rattle.fallible_itertools.specs.Equal.{equal_by}
+use Rattle.fallible_itertools.proofs.Lemmas.Equal.{turns_as_of_eq_where_acts, compared_by_of_lists}
 use Rattle.fallible_itertools.proofs.traits.FallibleItertools.eq_by.Goals as goal
 
 pub compare_by-answer-requires-clause-right : goal.compare_by-answer-requires-clause-right

@@ -1,5 +1,5 @@
 -- What the source lists, with what each failure is converted to in its place.
-use Rattle.fallible_itertools_adapters.proofs.Lemmas.ErrInto.{lists_converted}
+use Rattle.fallible_itertools_adapters.proofs.Lemmas.Failing.{lists_converted}
 use Rattle.fallible_itertools.proofs.traits.FallibleItertools.err_into.Goals as goal
 
 pub returns-clause-lists : goal.returns-clause-lists

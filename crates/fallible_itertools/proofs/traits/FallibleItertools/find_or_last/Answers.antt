@@ -1,6 +1,6 @@
 -- The fold by the step, and what it makes of a list.
 use Rattle.fallible_iterator.specs.Closures.{call_by_reference}
-use Rattle.fallible_itertools.specs.FindOrLast.{found_or_last}
+use Rattle.fallible_itertools.specs.Find.{found_or_last}
 use Rattle.fallible_itertools.proofs.Lemmas.Stepping.{consumed_of_lists, consumes_by_drive}
 use Rattle.fallible_itertools.proofs.traits.FallibleItertools.find_or_last.Goals as goal
 

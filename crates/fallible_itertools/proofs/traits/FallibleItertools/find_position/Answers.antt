@@ -3,8 +3,8 @@ use Rattle.std.proofs.Common.{None}
 use Rattle.fallible_iterator.specs.Closures.{call_by_reference}
 use Rattle.fallible_iterator.specs.Laws.Contract.{stays_run}
 use Rattle.fallible_iterator.proofs.Lemmas.Searching.{search_drains_of_position_drive, holds_each_turn_with_count_below_bound}
-use Rattle.fallible_itertools.specs.FindPosition.{find_position_pick}
-use Rattle.fallible_itertools.proofs.Lemmas.FindPosition.{position_found_of_lists, lists_rest_true_where_found}
+use Rattle.fallible_itertools.specs.Find.{find_position_pick}
+use Rattle.fallible_itertools.proofs.Lemmas.Find.{position_found_of_lists, lists_rest_true_where_found}
 use Rattle.fallible_itertools.proofs.traits.FallibleItertools.find_position.Goals as goal
 
 pub drive-requires-clause-callable : goal.drive-requires-clause-callable

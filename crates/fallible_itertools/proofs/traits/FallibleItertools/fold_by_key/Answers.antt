@@ -3,10 +3,9 @@ use Rattle.std.specs.Prelude.{Ok, Err, []}
 use Rattle.fallible_iterator.specs.Folds.{call_with, takes_with}
 use Rattle.fallible_iterator.specs.Fault.TheVariants.{Source}
 use Rattle.fallible_iterator.proofs.Lemmas.Folding.{holds_at_each_turn_of_held}
-use Rattle.fallible_itertools.specs.FoldByKey.{IsKeyFoldOf, checked_folds}
-use Rattle.fallible_itertools.specs.Keyed.{keyed_parts, keyed_contract, keyed}
+use Rattle.fallible_itertools.specs.Keyed.{IsKeyFoldOf, checked_folds, keyed_parts, keyed_contract, keyed}
 use Rattle.fallible_itertools.proofs.Lemmas.Contents.{contents_of_collected}
-use Rattle.fallible_itertools.proofs.Lemmas.FoldByKey.{hashed_map_of_none, callable_driving_by_key, folds_by_key_ended, folds_by_key_failed, folds_by_key_stopped, folded_by_key_of_keyed}
+use Rattle.fallible_itertools.proofs.Lemmas.Keyed.{hashed_map_of_none, callable_driving_by_key, folds_by_key_ended, folds_by_key_failed, folds_by_key_stopped, folded_by_key_of_keyed}
 use Rattle.fallible_itertools.proofs.traits.FallibleItertools.fold_by_key.Goals as goal
 
 pub drive-answer-requires-clause-callable : goal.drive-answer-requires-clause-callable

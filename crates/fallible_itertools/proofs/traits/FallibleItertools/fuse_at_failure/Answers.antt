@@ -1,5 +1,5 @@
 -- What the source lists, up to and with the first failure; after it each answer is an end.
-use Rattle.fallible_itertools_adapters.proofs.Lemmas.FuseAtFailure.{lists_up_to_failure, lists_for_good_up_to_failure}
+use Rattle.fallible_itertools_adapters.proofs.Lemmas.Failing.{lists_up_to_failure, lists_for_good_up_to_failure}
 use Rattle.fallible_itertools.proofs.traits.FallibleItertools.fuse_at_failure.Goals as goal
 
 pub returns-clause-lists : goal.returns-clause-lists

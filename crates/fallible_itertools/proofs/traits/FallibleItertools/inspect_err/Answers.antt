@@ -1,5 +1,5 @@
 -- What the source lists.
-use Rattle.fallible_itertools_adapters.proofs.Lemmas.InspectErr.{is_callable_seen, lists_inspected_failures}
+use Rattle.fallible_itertools_adapters.proofs.Lemmas.Failing.{is_callable_seen, lists_inspected_failures}
 use Rattle.fallible_itertools.proofs.traits.FallibleItertools.inspect_err.Goals as goal
 
 pub returns-clause-callable : goal.returns-clause-callable

@@ -1,9 +1,9 @@
 -- The collection of groups is the map of groups.
 use Rattle.std.specs.Prelude.{Ok, Err}
 use Rattle.fallible_iterator.proofs.Lemmas.Lists.Drawn.{collected_of_lists}
-use Rattle.fallible_itertools.specs.GroupMap.{IsGroupMapOf, GroupRefuses}
+use Rattle.fallible_itertools.specs.Keyed.{IsGroupMapOf, GroupRefuses}
 use Rattle.fallible_itertools.proofs.Lemmas.Contents.{contents_of_collected}
-use Rattle.fallible_itertools.proofs.Lemmas.GroupMap.{collects_all_grouped, collects_fault_of_groups}
+use Rattle.fallible_itertools.proofs.Lemmas.Keyed.{collects_all_grouped, collects_fault_of_groups}
 use Rattle.fallible_itertools.proofs.traits.FallibleItertools.into_group_map.Goals as goal
 
 pub returns-in-Ok-clause-collects : goal.returns-in-Ok-clause-collects

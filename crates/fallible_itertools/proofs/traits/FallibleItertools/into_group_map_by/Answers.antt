@@ -2,7 +2,7 @@
 use Rattle.std.proofs.Common.{refl}
 use Rattle.fallible_itertools.specs.Keyed.{keyed_parts, keyed_contract}
 use Rattle.fallible_itertools.proofs.Lemmas.Keyed.{lists_keyed}
-use Rattle.fallible_itertools.proofs.Lemmas.PartitionMap.{collects_of_view_where_view_is_known}
+use Rattle.fallible_itertools.proofs.Lemmas.Partition.{collects_of_view_where_view_is_known}
 use Rattle.fallible_itertools.proofs.traits.FallibleItertools.into_group_map_by.Goals as goal
 
 pub returns-clause-collects : goal.returns-clause-collects

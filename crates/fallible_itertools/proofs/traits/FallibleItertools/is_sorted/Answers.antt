@@ -1,5 +1,5 @@
 -- The fold by the step, and what it makes of a list.
-use Rattle.fallible_itertools_adapters.specs.Plan.{calls_nothing}
+use Rattle.fallible_itertools_adapters.specs.Staging.{calls_nothing}
 use Rattle.fallible_itertools.specs.IsSorted.{in_order}
 use Rattle.fallible_itertools.proofs.Lemmas.Stepping.{consumed_of_lists, consumes_by_drive}
 use Rattle.fallible_itertools.proofs.traits.FallibleItertools.is_sorted.Goals as goal

@@ -1,5 +1,5 @@
 -- The fold by the step, and what it makes of a list.
-use Rattle.fallible_itertools_adapters.specs.DedupBy.{same_call}
+use Rattle.fallible_itertools_adapters.specs.Coalesce.{same_call}
 use Rattle.fallible_itertools.specs.IsSorted.{in_order_by}
 use Rattle.fallible_itertools.proofs.Lemmas.Stepping.{consumed_of_lists, consumes_by_drive}
 use Rattle.fallible_itertools.proofs.traits.FallibleItertools.is_sorted_by.Goals as goal

@@ -2,9 +2,9 @@
 use Rattle.std.specs.Prelude.{Ok, Err}
 use Rattle.std.proofs.Common.{inr}
 use Rattle.fallible_iterator.proofs.Lemmas.Lists.Drawn.{collected_of_lists, collected_as_refused}
-use Rattle.fallible_itertools.specs.KSmallest.{IsSmallestOf, SmallestRefuses}
+use Rattle.fallible_itertools.specs.Sorted.{IsSmallestOf, SmallestRefuses}
 use Rattle.fallible_itertools.proofs.Lemmas.Contents.{contents_of_collected}
-use Rattle.fallible_itertools.proofs.Lemmas.KSmallestFolds.{collects_all_smallest, fails_with_smallest, refuses_item_smallest}
+use Rattle.fallible_itertools.proofs.Lemmas.Sorted.{collects_all_smallest, fails_with_smallest, refuses_item_smallest}
 use Rattle.fallible_itertools.proofs.traits.FallibleItertools.k_smallest.Goals as goal
 use Rattle.fallible_iterator.specs.Fault.TheVariants.{Source}
 

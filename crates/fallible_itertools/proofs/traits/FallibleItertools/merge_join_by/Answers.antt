@@ -3,9 +3,9 @@ use Rattle.std.specs.Prelude.{◌+◌}
 use Rattle.std.proofs.Common.{sym, subst, inr, arith}
 use Rattle.fallible_iterator.specs.Contract.{AtMost}
 use Rattle.fallible_iterator.specs.Cutting.Fuse.{fuse_contract, fuse_source}
-use Rattle.fallible_itertools_joins.specs.MergeJoinBy.{merge_join_by_contract}
+use Rattle.fallible_itertools_joins.specs.Merge.{merge_join_by_contract}
 use Rattle.fallible_iterator.proofs.Lemmas.Lists.ForGood.{lists_once}
-use Rattle.fallible_itertools_joins.proofs.Lemmas.MergeJoinBy.{lists_for_good_merge_joined}
+use Rattle.fallible_itertools_joins.proofs.Lemmas.Merge.{lists_for_good_merge_joined}
 use Rattle.fallible_itertools.proofs.traits.FallibleItertools.merge_join_by.Goals as goal
 
 pub returns-clause-lists : goal.returns-clause-lists

@@ -1,7 +1,7 @@
 -- What the fold makes of a list.
 use Rattle.fallible_iterator.specs.Picking.{call_at_two}
 use Rattle.std.proofs.Common.{◌∙◌, Ok}
-use Rattle.fallible_itertools.proofs.Lemmas.MinMaxBy.{minmaxed_by_of_lists, minmaxed_by_order_is_minmaxed}
+use Rattle.fallible_itertools.proofs.Lemmas.MinMax.{minmaxed_by_of_lists, minmaxed_by_order_is_minmaxed}
 use Rattle.fallible_itertools.proofs.traits.FallibleItertools.minmax_by.Goals as goal
 
 pub returns-clause-value : goal.returns-clause-value

@@ -1,6 +1,6 @@
 -- What the fold makes of a list.
 use Rattle.fallible_iterator.specs.Closures.{call_by_reference}
-use Rattle.fallible_itertools.proofs.Lemmas.MinMaxBy.{minmaxed_by_key_of_lists}
+use Rattle.fallible_itertools.proofs.Lemmas.MinMax.{minmaxed_by_key_of_lists}
 use Rattle.fallible_itertools.proofs.traits.FallibleItertools.minmax_by_key.Goals as goal
 
 pub returns-clause-value : goal.returns-clause-value

@@ -2,8 +2,8 @@
 use Rattle.std.proofs.Common.{sym, subst}
 use Rattle.fallible_iterator.specs.Closures.{IsCallable, call_by_value, takes_by_value}
 use Rattle.fallible_iterator.specs.Laws.Closures.{is_callable_after, reaches_reflexive}
-use Rattle.fallible_itertools_joins.specs.PadUsing.{index_contract}
-use Rattle.fallible_itertools_joins.proofs.Lemmas.PadUsing.{lists_for_good_padded, lists_padded}
+use Rattle.fallible_itertools_joins.specs.Zip.{index_contract}
+use Rattle.fallible_itertools_joins.proofs.Lemmas.Zip.{lists_for_good_padded, lists_padded}
 use Rattle.fallible_itertools.proofs.traits.FallibleItertools.pad_using.Goals as goal
 
 pub returns-clause-callable : goal.returns-clause-callable

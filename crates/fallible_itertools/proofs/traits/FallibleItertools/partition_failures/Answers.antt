@@ -2,10 +2,8 @@
 use Rattle.std.specs.Prelude.{◌⊎◌}
 use Rattle.std.proofs.Common.{refl, subst}
 use Rattle.fallible_iterator.specs.Collecting.{Collects}
-use Rattle.fallible_itertools.specs.Parted.{parted_source, parted_step}
-use Rattle.fallible_itertools.specs.PartitionMap.{EitherRefused, MadeOfEithers}
-use Rattle.fallible_itertools.proofs.Lemmas.PartitionMap.{collects_of_view_where_view_is_known}
-use Rattle.fallible_itertools.proofs.Lemmas.Parted.{partitioned_failures_of_lists}
+use Rattle.fallible_itertools.specs.Partition.{EitherRefused, MadeOfEithers, parted_source, parted_step}
+use Rattle.fallible_itertools.proofs.Lemmas.Partition.{collects_of_view_where_view_is_known, partitioned_failures_of_lists}
 use Rattle.fallible_itertools.proofs.traits.FallibleItertools.partition_failures.Goals as goal
 
 pub returns-clause-collects : goal.returns-clause-collects

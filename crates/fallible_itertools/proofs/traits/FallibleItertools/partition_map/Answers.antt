@@ -2,7 +2,7 @@
 use Rattle.std.proofs.Common.{subst, sym}
 use Rattle.fallible_iterator.specs.OneToOne.Map.{map_parts, map_contract}
 use Rattle.fallible_itertools.proofs.Lemmas.Contents.{contents_of_collected}
-use Rattle.fallible_itertools.proofs.Lemmas.PartitionMap.{collects_of_view_where_view_is_known}
+use Rattle.fallible_itertools.proofs.Lemmas.Partition.{collects_of_view_where_view_is_known}
 use Rattle.fallible_itertools.proofs.traits.FallibleItertools.partition_map.Goals as goal
 
 pub collect-requires-clause-can_next : goal.collect-requires-clause-can_next

@@ -1,6 +1,6 @@
 -- The fold over numbered items that keeps the greater of two.
 use Rattle.std.proofs.Common.{rules}
-use Rattle.fallible_itertools.proofs.Lemmas.PositionBest.{place_drains, place_of_best_is_position_greatest}
+use Rattle.fallible_itertools.proofs.Lemmas.MinMax.{place_drains, place_of_best_is_position_greatest}
 use Rattle.fallible_itertools.proofs.traits.FallibleItertools.position_max.Goals as goal
 
 pub returns-clause-picked : goal.returns-clause-picked

@@ -1,7 +1,7 @@
 -- The fold over numbered items that keeps the lesser of two.
 use Rattle.std.proofs.Common.{rules}
 use Rattle.fallible_itertools.specs.MinMax.{or_less}
-use Rattle.fallible_itertools.proofs.Lemmas.PositionBest.{place_drains, place_of_best_is_position_least}
+use Rattle.fallible_itertools.proofs.Lemmas.MinMax.{place_drains, place_of_best_is_position_least}
 use Rattle.fallible_itertools.proofs.traits.FallibleItertools.position_min.Goals as goal
 
 pub returns-clause-picked : goal.returns-clause-picked

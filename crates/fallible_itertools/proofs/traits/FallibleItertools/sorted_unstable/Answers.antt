@@ -1,7 +1,7 @@
 -- What `collect` returned, sorted in place.
-use Rattle.fallible_itertools.specs.SortedUnstable.{HasItemsInOrder}
+use Rattle.fallible_itertools.specs.Sorted.{HasItemsInOrder}
 use Rattle.fallible_itertools.proofs.Lemmas.Contents.{contents_of_collected}
-use Rattle.fallible_itertools.proofs.Lemmas.SortedUnstable.{collected_where_sorted_in_place}
+use Rattle.fallible_itertools.proofs.Lemmas.Sorted.{collected_where_sorted_in_place}
 use Rattle.fallible_itertools.proofs.traits.FallibleItertools.sorted_unstable.Goals as goal
 
 pub returns-clause-collects : goal.returns-clause-collects

@@ -1,9 +1,8 @@
 -- What `collect` returned, sorted in place by the keys.
 use Rattle.fallible_iterator.proofs.Lemmas.Lists.Drawn.{collected_is_failure}
-use Rattle.fallible_itertools.specs.Sorted.{HasItems}
-use Rattle.fallible_itertools.specs.SortedUnstable.{HasItemsInOrderByCalls, HasItemsInOrderByKey}
+use Rattle.fallible_itertools.specs.Sorted.{HasItems, HasItemsInOrderByCalls, HasItemsInOrderByKey}
 use Rattle.fallible_itertools.proofs.Lemmas.Contents.{made_of_collected_where_ok}
-use Rattle.fallible_itertools.proofs.Lemmas.SortedUnstable.{items_in_order_by_key_where_computes, collected_where_sorted_in_place}
+use Rattle.fallible_itertools.proofs.Lemmas.Sorted.{items_in_order_by_key_where_computes, collected_where_sorted_in_place}
 use Rattle.fallible_itertools.proofs.traits.FallibleItertools.sorted_unstable_by_key.Goals as goal
 
 pub returns-clause-collects : goal.returns-clause-collects

@@ -1,5 +1,5 @@
 -- What the source lists, up to and with the n-th failure.
-use Rattle.fallible_itertools_adapters.proofs.Lemmas.StopAfter.{lists_for_good_stopped, lists_stopped}
+use Rattle.fallible_itertools_adapters.proofs.Lemmas.Failing.{lists_for_good_stopped, lists_stopped}
 use Rattle.fallible_itertools.proofs.traits.FallibleItertools.stop_after.Goals as goal
 
 pub returns-clause-lists : goal.returns-clause-lists

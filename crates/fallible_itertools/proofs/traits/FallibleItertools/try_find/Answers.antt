@@ -2,7 +2,7 @@
 use Rattle.fallible_iterator.specs.Closures.{call_by_reference}
 use Rattle.fallible_iterator.specs.Laws.Contract.{stays_run}
 use Rattle.fallible_iterator.proofs.Lemmas.Searching.{search_drains_found}
-use Rattle.fallible_itertools.proofs.Lemmas.Conversions.{driven_converted, try_found_of_lists, lists_rest_try_true}
+use Rattle.fallible_itertools.proofs.Lemmas.Find.{driven_converted, try_found_of_lists, lists_rest_try_true}
 use Rattle.fallible_itertools.proofs.traits.FallibleItertools.try_find.Goals as goal
 
 pub returns-clause-searched : goal.returns-clause-searched

@@ -3,7 +3,7 @@ use Rattle.fallible_iterator.specs.Closures.{call_by_value}
 use Rattle.fallible_iterator.specs.Searching.{for_each_pick}
 use Rattle.fallible_iterator.specs.Laws.Contract.{stays_run}
 use Rattle.fallible_iterator.proofs.Lemmas.Searching.{search_drains_of_drive}
-use Rattle.fallible_itertools.proofs.Lemmas.Conversions.{driven_converted, try_each_done_of_lists, lists_rest_try_each}
+use Rattle.fallible_itertools.proofs.Lemmas.Find.{driven_converted, try_each_done_of_lists, lists_rest_try_each}
 use Rattle.fallible_itertools.proofs.traits.FallibleItertools.try_for_each.Goals as goal
 
 pub returns-clause-searched : goal.returns-clause-searched

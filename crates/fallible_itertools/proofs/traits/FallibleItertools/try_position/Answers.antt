@@ -4,7 +4,7 @@ use Rattle.fallible_iterator.specs.Closures.{call_by_value}
 use Rattle.fallible_iterator.specs.Searching.{position_pick}
 use Rattle.fallible_iterator.specs.Laws.Contract.{stays_run}
 use Rattle.fallible_iterator.proofs.Lemmas.Searching.{search_drains_of_position_drive, holds_each_turn_with_count_below_bound}
-use Rattle.fallible_itertools.proofs.Lemmas.Conversions.{unfailing, driven_converted, try_position_in_of_lists, lists_rest_try_true_placed}
+use Rattle.fallible_itertools.proofs.Lemmas.Find.{unfailing, driven_converted, try_position_in_of_lists, lists_rest_try_true_placed}
 use Rattle.fallible_itertools.proofs.traits.FallibleItertools.try_position.Goals as goal
 
 pub drive-requires-clause-callable : goal.drive-requires-clause-callable

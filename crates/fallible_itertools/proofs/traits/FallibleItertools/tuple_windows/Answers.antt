@@ -1,5 +1,5 @@
 -- What is made of the source's list.
-use Rattle.fallible_itertools_adapters.proofs.Lemmas.TupleWindows.{lists_windowed, lists_windowed_until_refused}
+use Rattle.fallible_itertools_adapters.proofs.Lemmas.Tuples.{lists_windowed, lists_windowed_until_refused}
 use Rattle.fallible_itertools.proofs.traits.FallibleItertools.tuple_windows.Goals as goal
 
 pub returns-clause-lists : goal.returns-clause-lists

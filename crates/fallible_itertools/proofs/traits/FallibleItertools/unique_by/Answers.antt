@@ -1,7 +1,7 @@
 -- What is made of the source's list.
 use Rattle.std.proofs.Common.{sym, subst}
 use Rattle.fallible_iterator.specs.Lists.{Lists}
-use Rattle.fallible_itertools_adapters.proofs.Lemmas.UniqueBy.{lists_unique_by_key}
+use Rattle.fallible_itertools_adapters.proofs.Lemmas.Unique.{lists_unique_by_key}
 use Rattle.fallible_itertools.proofs.traits.FallibleItertools.unique_by.Goals as goal
 
 pub returns-clause-lists : goal.returns-clause-lists

@@ -3,9 +3,9 @@ use Rattle.std.specs.Prelude.{◌+◌}
 use Rattle.std.proofs.Common.{sym, subst, inr, arith}
 use Rattle.fallible_iterator.specs.Contract.{AtMost}
 use Rattle.fallible_iterator.specs.Cutting.Fuse.{fuse_contract, fuse_source}
-use Rattle.fallible_itertools_joins.specs.ZipLongest.{zip_longest_contract}
+use Rattle.fallible_itertools_joins.specs.Zip.{zip_longest_contract}
 use Rattle.fallible_iterator.proofs.Lemmas.Lists.ForGood.{lists_once}
-use Rattle.fallible_itertools_joins.proofs.Lemmas.ZipLongest.{lists_for_good_zipped_longest}
+use Rattle.fallible_itertools_joins.proofs.Lemmas.Zip.{lists_for_good_zipped_longest}
 use Rattle.fallible_itertools.proofs.traits.FallibleItertools.zip_longest.Goals as goal
 
 pub returns-clause-lists : goal.returns-clause-lists

@@ -1,8 +1,7 @@
 -- The closure was called on the item that is held and the next one.
 use Rattle.std.specs.Prelude.{Some}
-use Rattle.fallible_itertools_adapters.specs.Coalesce.{coalesce_call, coalesce_plan}
-use Rattle.fallible_itertools_adapters.specs.Dedup.{dedup_stops}
-use Rattle.fallible_itertools_adapters.proofs.Lemmas.Plan.{follows_at}
+use Rattle.fallible_itertools_adapters.specs.Coalesce.{coalesce_call, coalesce_plan, dedup_stops}
+use Rattle.fallible_itertools_adapters.proofs.Lemmas.Staging.{follows_at}
 use Rattle.fallible_itertools_adapters.proofs.coalesce.CoalesceStageStageTuple2Option.on_item.Goals as goal
 
 pub returns-in-Some : goal.returns-in-Some

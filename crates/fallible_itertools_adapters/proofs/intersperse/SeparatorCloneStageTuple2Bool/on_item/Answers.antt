@@ -2,8 +2,8 @@
 use Rattle.std.specs.Prelude.{true, Ok, Err}
 use Rattle.std.proofs.Common.{refl, rules}
 use Rattle.fallible_itertools_adapters.specs.Intersperse.{intersperse_plan, separator_cloned}
-use Rattle.fallible_itertools_adapters.specs.Plan.{passes}
-use Rattle.fallible_itertools_adapters.proofs.Lemmas.Plan.{follows_at}
+use Rattle.fallible_itertools_adapters.specs.Staging.{passes}
+use Rattle.fallible_itertools_adapters.proofs.Lemmas.Staging.{follows_at}
 use Rattle.fallible_itertools_adapters.proofs.intersperse.SeparatorCloneStageTuple2Bool.on_item.Goals as goal
 
 pub returns-in-Ok : goal.returns-in-Ok

@@ -1,5 +1,5 @@
 -- A failure is a stop, after which nothing is held.
-use Rattle.fallible_itertools_adapters.proofs.Lemmas.WithPosition.{positioned_of_empty_is_empty, positioned_of_one_is_only, positioned_in_parts, positioned_of_several_is_first_to_last}
+use Rattle.fallible_itertools_adapters.proofs.Lemmas.Positions.{positioned_of_empty_is_empty, positioned_of_one_is_only, positioned_in_parts, positioned_of_several_is_first_to_last}
 use Rattle.fallible_itertools_adapters.proofs.laws.holding.law_positioned.Goals as goal
 
 pub returns-clause-parts : goal.returns-clause-parts

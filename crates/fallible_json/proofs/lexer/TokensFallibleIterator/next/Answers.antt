@@ -5,7 +5,7 @@ use Rattle.fallible_iterator.specs.Laws.Peeking.Peekable.{lawful_peekable}
 use Rattle.fallible_iterator.specs.Peeking.Peekable.{peekable_made}
 use Rattle.fallible_json.specs.Lexing.{token_rules}
 use Rattle.fallible_itertools.proofs.Lemmas.Lexing.{ends_lexed, fails_lexed, takes_alone, takes_token}
-use Rattle.fallible_json.proofs.LexingLemmas.{begins_by, begins_none, takes_run}
+use Rattle.fallible_json.proofs.Lemmas.Lexing.{begins_by, begins_none, takes_run}
 use Rattle.fallible_json.proofs.lexer.TokensFallibleIterator.next.Goals as goal
 
 pub returns-in-Ok-None : goal.returns-in-Ok-None

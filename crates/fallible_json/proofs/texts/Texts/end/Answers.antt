@@ -1,6 +1,6 @@
 -- What is begun and whole ends as a text.
 use Rattle.std.proofs.Common.{sym, ◌∙◌}
-use Rattle.fallible_json.proofs.TakenLemmas.{ends_with_text}
+use Rattle.fallible_json.proofs.Lemmas.Taken.{ends_with_text}
 use Rattle.fallible_json.proofs.texts.Texts.end.Goals as goal
 
 pub returns-in-Ok-clause-all : goal.returns-in-Ok-clause-all

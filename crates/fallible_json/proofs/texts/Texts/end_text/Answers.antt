@@ -1,6 +1,6 @@
 -- A newline after what is begun ends it.
 use Rattle.std.proofs.Common.{refl, ◌∙◌}
-use Rattle.fallible_json.proofs.TakenLemmas.{ends_text_with}
+use Rattle.fallible_json.proofs.Lemmas.Taken.{ends_text_with}
 use Rattle.fallible_json.proofs.texts.Texts.end_text.Goals as goal
 
 pub returns : goal.returns

@@ -2,7 +2,7 @@
 use Rattle.std.proofs.Common.{rules, sym, ap, subst, subst₂, ◌≡◌, ◌∙◌, Err}
 use Rattle.fallible_iterator.specs.Fault.TheVariants.{Source}
 use Rattle.fallible_json.specs.Taking.{FindsLastFault}
-use Rattle.fallible_json.proofs.LastLemmas.{on_ok, last_all, last_break, last_fault, last_misplaced, last_more, last_none}
+use Rattle.fallible_json.proofs.Lemmas.Last.{on_ok, last_all, last_break, last_fault, last_misplaced, last_more, last_none}
 use Rattle.fallible_json.proofs.texts.Texts.finish.Goals as goal
 
 pub loop-first-init : goal.loop-first-init

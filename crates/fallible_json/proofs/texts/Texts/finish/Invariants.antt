@@ -1,6 +1,6 @@
 -- Up to the place the texts ended.
 use Rattle.std.specs.Prelude.{◌-◌, length}
-use Rattle.fallible_json.proofs.LastLemmas.{TakesLast}
+use Rattle.fallible_json.proofs.Lemmas.Last.{TakesLast}
 use Rattle.fallible_json.proofs.texts.Texts.finish.Given as goal
 
 abbrev pub invariant-loop-first : goal.invariant-loop-first

@@ -1,5 +1,5 @@
 -- The place goes on to what comes after those that were taken.
-use Rattle.fallible_json.proofs.TakingLemmas.{takes_done}
+use Rattle.fallible_json.proofs.Lemmas.Taking.{takes_done}
 use Rattle.fallible_json.proofs.texts.Texts.push.Goals as goal
 
 pub returns-in-Ok-clause-taken : goal.returns-in-Ok-clause-taken

@@ -5,7 +5,7 @@ use Rattle.std.proofs.lemmas.Bool.{and_from, and_left, and_right, not_from_false
 use Rattle.fallible_json.specs.Grammar.{is_whole}
 use Rattle.fallible_json.specs.Taking.{begun_of}
 use Rattle.fallible_json.specs.Texts.{is_joined}
-use Rattle.fallible_json.proofs.TakenLemmas.{token_ends_text, token_goes_on}
+use Rattle.fallible_json.proofs.Lemmas.Taken.{token_ends_text, token_goes_on}
 use Rattle.fallible_json.proofs.texts.Texts.take.Goals as goal
 use Rattle.fallible_json.proofs.texts.Texts.take.Goals.{then-not-is_whole-via-then-not-is_whole, then-not-is_whole-via-else-not-is_whole+then-is_joined}
 

@@ -2,8 +2,8 @@
 use Rattle.std.proofs.Common.{sym, ap, subst, subst₂, ◌≡◌, ◌∙◌, Err}
 use Rattle.fallible_iterator.specs.Fault.TheVariants.{Source}
 use Rattle.fallible_json.specs.Taking.{FindsFault}
-use Rattle.fallible_json.proofs.SeenLemmas.{seen_at_first}
-use Rattle.fallible_json.proofs.TakingLemmas.{finds_break, finds_misplaced, takes_more, takes_none, takes_open}
+use Rattle.fallible_json.proofs.Lemmas.Seen.{seen_at_first}
+use Rattle.fallible_json.proofs.Lemmas.Taking.{finds_break, finds_misplaced, takes_more, takes_none, takes_open}
 use Rattle.fallible_json.proofs.texts.Texts.take_settled.Goals as goal
 
 pub loop-first-init : goal.loop-first-init

@@ -1,5 +1,5 @@
 use Rattle.std.proofs.Common.{rules}
-use Rattle.fallible_pg.proofs.CellLemmas.{cells_of-short, cells_of-long}
+use Rattle.fallible_pg.proofs.Lemmas.Cell.{cells_of-short, cells_of-long}
 use Rattle.fallible_pg.proofs.cells.Cells.new.Goals as goal
 
 pub returns-then-message-lt7 : goal.returns-then-message-lt7

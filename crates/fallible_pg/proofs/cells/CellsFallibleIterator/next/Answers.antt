@@ -1,5 +1,5 @@
 use Rattle.std.proofs.Common.{rules, refl, arith, ◌-◌, []}
-use Rattle.fallible_pg.proofs.CellLemmas.{takes_cell_end, takes_bytes_after_cells, takes_cell, takes_cell_damaged}
+use Rattle.fallible_pg.proofs.Lemmas.Cell.{takes_cell_end, takes_bytes_after_cells, takes_cell, takes_cell_damaged}
 use Rattle.fallible_pg.proofs.cells.CellsFallibleIterator.next.Goals as goal
 
 pub returns-then-is_empty : goal.returns-then-is_empty

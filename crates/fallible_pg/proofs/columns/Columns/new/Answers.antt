@@ -1,5 +1,5 @@
 use Rattle.std.proofs.Common.{rules}
-use Rattle.fallible_pg.proofs.ColumnLemmas.{columns_of-short, columns_of-long}
+use Rattle.fallible_pg.proofs.Lemmas.Column.{columns_of-short, columns_of-long}
 use Rattle.fallible_pg.proofs.columns.Columns.new.Goals as goal
 
 pub returns-then-message-lt7 : goal.returns-then-message-lt7

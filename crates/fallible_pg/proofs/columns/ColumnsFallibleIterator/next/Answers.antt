@@ -1,5 +1,5 @@
 use Rattle.std.proofs.Common.{rules, refl, arith, ◌-◌, []}
-use Rattle.fallible_pg.proofs.ColumnLemmas.{takes_column_end, takes_bytes_after_columns, takes_column, takes_column_damaged}
+use Rattle.fallible_pg.proofs.Lemmas.Column.{takes_column_end, takes_bytes_after_columns, takes_column, takes_column_damaged}
 use Rattle.fallible_pg.proofs.columns.ColumnsFallibleIterator.next.Goals as goal
 
 pub returns-then-is_empty : goal.returns-then-is_empty

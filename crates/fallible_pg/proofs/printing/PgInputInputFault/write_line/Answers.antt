@@ -1,5 +1,5 @@
 -- What is told was written, and then the newline.
-use Rattle.program_io.proofs.WritingLemmas.{on_ok_appends_last}
+use Rattle.program_io.proofs.Lemmas.Writing.{on_ok_appends_last}
 use Rattle.fallible_pg.proofs.printing.PgInputInputFault.write_line.Goals as goal
 
 pub returns-clause-line : goal.returns-clause-line

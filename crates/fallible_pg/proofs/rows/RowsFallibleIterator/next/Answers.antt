@@ -9,7 +9,7 @@ use Rattle.fallible_pg.specs.Reading.{messages_parts, message_step}
 use Rattle.fallible_pg.specs.declared.message.Message.{Message}
 use Rattle.fallible_pg.specs.declared.kind.Kind.TheVariants.{Skipped}
 use Rattle.fallible_pg.specs.declared.rows.Reply.TheVariants as Came
-use Rattle.fallible_pg.proofs.RowLemmas.{all_skipped_more, made_of_kind, passed_more, yields_more, step_of_draw, place_grows}
+use Rattle.fallible_pg.proofs.Lemmas.Row.{all_skipped_more, made_of_kind, passed_more, yields_more, step_of_draw, place_grows}
 use Rattle.fallible_pg.proofs.rows.RowsFallibleIterator.next.Goals as goal
 
 pub returns-in-Row : goal.returns-in-Row

@@ -3,7 +3,7 @@ use Rattle.std.specs.Int.{IsInRange}
 use Rattle.std.proofs.lemmas.List.{length_push}
 use Rattle.fallible_rows.specs.Rows.{row_number}
 use Rattle.fallible_rows.specs.Digits.{TellsOf}
-use Rattle.fallible_rows.proofs.RowLemmas.{row_number-first, row_number-more, row_number-other_byte, row_number-too_long, row_number-too_great}
+use Rattle.fallible_rows.proofs.Lemmas.Row.{row_number-first, row_number-more, row_number-other_byte, row_number-too_long, row_number-too_great}
 use Rattle.fallible_rows.specs.declared.digits.Digits.{Digits}
 use Rattle.fallible_rows.specs.declared.digits.Digits.TheVariants.{Number, Refused}
 use Rattle.fallible_rows.proofs.digits.Digits.followed_by.Goals as goal

@@ -1,6 +1,6 @@
 -- As many items as bytes at most, and they list the results of the rows.
 use Rattle.std.proofs.Common.{refl, inl}
-use Rattle.fallible_rows.proofs.BoundLemmas.{bounds_rows}
+use Rattle.fallible_rows.proofs.Lemmas.Bound.{bounds_rows}
 use Rattle.fallible_rows.proofs.ListsLaw.{lists_rows, lists_rows_where_read}
 use Rattle.fallible_rows.proofs.rows.Rows.with_limit.Goals as goal
 

@@ -1,7 +1,7 @@
 use Rattle.std.proofs.Common.{Option, Some, inl, inr, subst, sym, refl}
 use Rattle.fallible_iterator.specs.Traces.{end, failure}
 use Rattle.fallible_rows.specs.RowTraces.{row_step}
-use Rattle.fallible_rows.proofs.TraceLemmas.{draws_row_by_newline, draws_row_by_end, draws_row_by_failure}
+use Rattle.fallible_rows.proofs.Lemmas.Trace.{draws_row_by_newline, draws_row_by_end, draws_row_by_failure}
 use Rattle.fallible_rows.specs.declared.fault.RowFault.TheVariants.{Read}
 use Rattle.fallible_rows.specs.declared.rows.Ahead.{Ahead}
 use Rattle.fallible_rows.proofs.rows.RowsFallibleIterator.next.Goals as goal

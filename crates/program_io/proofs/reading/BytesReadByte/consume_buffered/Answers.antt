@@ -1,6 +1,6 @@
 use Rattle.std.proofs.Common.{refl, false, ◌≡◌, length, drop, ◌-◌, arith}
 use Rattle.std.proofs.lemmas.List.{take_all, length-drop}
-use Rattle.program_io.proofs.ReadingLemmas.{gives_bytes}
+use Rattle.program_io.proofs.Lemmas.Reading.{gives_bytes}
 use Rattle.program_io.proofs.reading.BytesReadByte.consume_buffered.Goals as goal
 
 pub returns-then-count-gt0 : goal.returns-then-count-gt0

@@ -1,4 +1,4 @@
-use Rattle.program_io.proofs.ReadingLemmas.{gives_bytes_lent}
+use Rattle.program_io.proofs.Lemmas.Reading.{gives_bytes_lent}
 use Rattle.program_io.proofs.reading.LentReadByte.consume_buffered.Goals as goal
 
 pub returns : goal.returns

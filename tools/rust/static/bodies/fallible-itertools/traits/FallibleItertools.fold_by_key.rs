@@ -1,5 +1,5 @@
 // changed: no allocator is passed; of values that can be cloned
-// proved: 85468fec
+// proved: 7a698978
 fn fold_by_key<K, B, F, G>(self, key: F, init: B, f: G) -> Result<HashMap<K, B>, Self::Error>
 where
     K: Eq + Hash,
@@ -9,7 +9,7 @@ where
 {
     let mut it = Keyed { it: self, f: key };
     let mut state = (HashMap::new(), f, None);
-    let answer = it.drive(&mut state, &crate::fold_by_key::FoldByKeyTurn { init });
+    let answer = it.drive(&mut state, &crate::keyed::FoldByKeyTurn { init });
     let (folds, _, _) = state;
     match answer {
         Ok(None) => Ok(folds),

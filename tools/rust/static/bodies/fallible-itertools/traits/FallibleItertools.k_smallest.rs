@@ -1,11 +1,11 @@
 // changed: no allocator is passed; nothing is refused
-// proved: f842cf13
+// proved: 896bf716
 fn k_smallest(mut self, k: usize) -> Result<Vec<Self::Item>, Self::Error>
 where
     Self::Item: Ord,
 {
     let mut kept = Vec::new();
-    whole(self.drive(&mut kept, &k_smallest::SmallestTurn { k }))?;
-    k_smallest::cut(&mut kept, k);
+    whole(self.drive(&mut kept, &sorted::SmallestTurn { k }))?;
+    sorted::cut(&mut kept, k);
     Ok(kept)
 }

@@ -1,5 +1,5 @@
 // changed: the fold of the proved `collect`, into an empty `Vec`
-// proved: 8696b307
+// proved: 65f84874
 fn sorted_unstable_by<F>(
     self,
     f: F,
@@ -7,5 +7,5 @@ fn sorted_unstable_by<F>(
 where
     F: FnMut(&Self::Item, &Self::Item) -> Ordering,
 {
-    sorted_unstable::items_in_order_by(gathered(self), f)
+    sorted::items_in_order_by(gathered(self), f)
 }

@@ -1,5 +1,5 @@
 // changed: the fold of the proved `collect`, into an empty `Vec`
-// proved: d14b82d8
+// proved: afce2824
 fn sorted_unstable_by_key<K, F>(
     self,
     f: F,
@@ -8,5 +8,5 @@ where
     K: Ord,
     F: FnMut(&Self::Item) -> K,
 {
-    sorted_unstable::items_in_order_by_key(gathered(self), f)
+    sorted::items_in_order_by_key(gathered(self), f)
 }
