@@ -1,10 +1,9 @@
 //! Callers of adapters after those that allocate: each states the value up to an allocation failure, by one term.
-ghost use Rattle.std.specs.Prelude.{◌≡◌, ℕ, ◌/◌, length, List, Result, Ok, Some, None, nat_eq, nat_lt, if◌then◌else◌};
-ghost use Rattle.fallible_iterator.specs.Lists.{counted, filter_mapped, filtered, items, mapped, numbered, pointed_to, results, skipped_while};
+ghost use Rattle.std.specs.Prelude.{◌≡◌, ◌/◌, length, Ok, Some, None, nat_eq, nat_lt, if◌then◌else◌};
+ghost use Rattle.fallible_iterator.specs.Lists.{counted, filter_mapped, filtered, mapped, numbered, results, skipped_while};
 ghost use Rattle.fallible_iterator.specs.Making.{CollectedMade, SameOrRefused};
 ghost use Rattle.fallible_itertools.specs.Chunks.{chunked, chunked_by};
 ghost use Rattle.fallible_itertools.specs.Positions.{positions_where};
-ghost use Rattle.fallible_itertools.specs.Unique.{unique_of};
 ghost use Rattle.example_itertools.specs.declared.batching.NoBatch.{NoBatch};
 
 use crate::batching::NoBatch;
