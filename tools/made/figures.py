@@ -1,4 +1,4 @@
-"""The figures of the pages, as `17 <!-- laws of hints -->`, which are counted, and the files that are handed on."""
+"""The figures of the pages, as `17 <!-- callers -->`, which are counted, and the files that are handed on."""
 
 import re
 
@@ -25,7 +25,6 @@ def figures(crates):
     """What is counted, by its name in the pages."""
     rows = list(callers(crates))
     words, lines = belief.size(crates, "fallible_itertools/src/traits.rt", "dedup", ("parts", "lists"))
-    laws = list((crates / "fallible_iterator" / "src" / "laws").rglob("*.rt"))
     return {
         "edits": edits(crates, "gate-edits"),
         "release edits": edits(crates, "release-edits"),
@@ -34,7 +33,6 @@ def figures(crates):
         "callers with a law": sum(1 for row in rows if row[5]),
         "words of dedup": words,
         "lines of dedup": lines,
-        "laws": count_of(r"pub fn law_", laws),
         "tests": count_of(r"\s*#\[test\]", [*crates.glob("*/src/**/*.rt"), *(crates.parent / "tests").glob("*/src/**/*.rt.txt")]),
     }
 

@@ -1,12 +1,10 @@
-"""docs/LAWS.md: each law, with the first sentence of its comment.
-
-Laws whose sentences differ in the type alone share one. Of the other laws of a type's hint the names stand together."""
+"""docs/LAWS.md: each law, with the first sentence of its comment. A law is a function `law_..`, or a lemma whose comment begins with `Law:`."""
 
 import re
 
 from made import code
+from made.tree import LIBRARY
 
-# The headline first.
 PLACES = (
     ("fallible_core", "headline.rt"), ("fallible_iterator", "laws/**/*.rt"),
     ("fallible_itertools_adapters", "laws/**/*.rt"), ("fallible_itertools_joins", "laws/**/*.rt"),
@@ -14,26 +12,35 @@ PLACES = (
 )
 HEAD = """# Laws
 
-Each law, with the first sentence of its `///`, which says the rest. A law is a function that is called for its contract alone. The first two are the headline. `tools/pages` writes this page, and the gate compares it.
+Each law, with the first sentence of its comment, which says the rest. A law is a function that is called for its contract alone, or a lemma, which a term cites. Beside a lemma stands its file, which has more of the same word. `law_headline` and `law_headline_back` are the headline. `tools/pages` writes this page, and the gate compares it.
 """
-SHARED = """
-## Of one type each
-
-*T* is the type that the law is named for.
-"""
-TYPE = re.compile(r"`[A-Z]\w*`")
+MARK = "-- Law: "
+LEMMA = re.compile(r"\s*pub ([\w-]+) :")
 # Up to the first full stop that ends no piece of code.
 SENTENCE = re.compile(r"(?:`[^`]*`|[^`])*?\.(?= |$)")
 
 
-def laws(crates):
-    """Each law: its crate, its file below `src`, its name and its comment."""
+def functions(crates):
+    """Each law that is a function: its crate, its file, its name and its comment."""
     for crate, pattern in PLACES:
-        top = crates / crate / "src"
-        for path in sorted(top.glob(pattern)):
+        for path in sorted((crates / crate / "src").glob(pattern)):
             for function in code.functions(path):
                 if function.name.startswith("law_"):
-                    yield crate, path.relative_to(top).with_suffix(""), function.name, function.comment
+                    yield crate, path, function.name, function.comment
+
+
+def lemmas(crates):
+    """Each law that is a lemma: its crate, its file, its name and its comment."""
+    for crate in LIBRARY:
+        for path in sorted((crates / crate).glob("*/L*/**/*.antt")):
+            said = None
+            for line in code.lines_of(path):
+                bare = line.strip()
+                if bare.startswith(MARK):
+                    said = bare.removeprefix(MARK)
+                elif said is not None and (found := LEMMA.match(line)):
+                    yield crate, path, found.group(1), said
+                    said = None
 
 
 def first_sentence(comment):
@@ -42,47 +49,21 @@ def first_sentence(comment):
     return found.group() if found else comment
 
 
-def of_type(name, comment):
-    """A comment with T in the place of the type that the law is named for, if it names it."""
-    named = {tail.replace("_", "") for tail in tails(name)}
-    return TYPE.sub(lambda found: "*T*" if found.group()[1:-1].lower() in named else found.group(), comment)
-
-
-def tails(name):
-    """The ends of a law's name, each of which may be a type's."""
-    parts = name.split("_")
-    return ["_".join(parts[n:]) for n in range(1, len(parts))]
-
-
 def page(crates):
     """The text of the page."""
-    found = [(crate, name, first_sentence(comment)) for crate, _, name, comment in laws(crates)]
-    alike = {}
-    for _, name, comment in found:
-        said = of_type(name, comment)
-        if said != comment:
-            alike.setdefault(said, []).append(name)
-    alike = {said: names for said, names in alike.items() if len(names) > 1}
-    shared = {name for names in alike.values() for name in names}
-    own = [name for _, name, comment in found if name not in shared and name.startswith("law_hints_") and of_type(name, comment) != comment]
-    lines, last = [HEAD.rstrip("\n")], None
-    for crate, name, comment in found:
-        if name in shared or name in own:
-            continue
-        if crate != last:
-            last = crate
+    lines, found = [HEAD.rstrip("\n")], [*functions(crates), *lemmas(crates)]
+    for crate in LIBRARY:
+        of_crate = [law for law in found if law[0] == crate]
+        if of_crate:
             lines.append(f"\n## {crate}\n")
-        lines.append(f"- `{name}`: {comment}")
-    if alike:
-        lines.append(SHARED)
-        lines += [f"- {', '.join(f'`{name}`' for name in names)}: {said}" for said, names in alike.items()]
-    if own:
-        lines.append(f"- {', '.join(f'`{name}`' for name in own)}: when each hint of *T* is sound.")
+        for _, path, name, comment in of_crate:
+            place = f" of `{'/'.join(path.relative_to(crates / crate).with_suffix('').parts[1:])}`" if path.suffix == ".antt" else ""
+            lines.append(f"- `{name}`{place}: {first_sentence(comment)}")
     return "\n".join(lines) + "\n"
 
 
 def without_sentences(crates):
     """A line for each law with no sentence, or one that stops at a colon."""
-    for crate, place, name, comment in laws(crates):
+    for _, path, name, comment in [*functions(crates), *lemmas(crates)]:
         if not comment or comment.endswith(":"):
-            yield f"crates/{crate}/src/{place}.rt: no sentence tells what {name} states"
+            yield f"{path.relative_to(crates.parent)}: no sentence tells what {name} states"

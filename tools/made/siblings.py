@@ -34,10 +34,10 @@ def own(file, name):
 
 
 def files(crates, name):
-    """The files of terms of an adapter or a consumer: of its calls, its method, its law and its hint's."""
+    """The files of terms of an adapter or a consumer: of its calls and its method."""
     places = [(f"`{call}`", f"{name}/*FallibleIterator/{call}") for call in CALLS[:2]]
     places += [(f"`{call}`", f"{name}/*/{call}") for call in CALLS[2:]]
-    places += [("the method", f"traits/*/{name}"), ("the law", f"laws/*/law_{name}"), ("the law of the hint", f"laws/*/law_hints_{name}")]
+    places += [("the method", f"traits/*/{name}")]
     for said, place in places:
         for proofs in (crates / crate / "proofs" for crate in LIBRARY):
             found = sorted(proofs.glob(f"{place}/Answers.antt"))

@@ -94,13 +94,18 @@ ITERTOOLS = [
     (r"parted\.rs", r"^/// Returns the collection, or (?:.*\n)*?\}\n", "", 1),
     (r"parted\.rs", r"^use fallible_iterator::\{FallibleIterator, Fault\};", "use fallible_iterator::FallibleIterator;", 1),
     (r"traits\.rs", r"::parted::\{Parted, without_fault\};", "::parted::Parted;", 1),
-    (r"until_failure\.rs", r"^/// Returns the collection beside (?:.*\n)*?\}\n", "", 1),
-    (r"traits\.rs", r"::until_failure::\{PushTurn, with_failure\};", "::until_failure::PushTurn;", 1),
+    (r"traits\.rs", r"^use crate::until_failure::with_failure;\n", "", 1),
+    (r"lib\.rs", r"^pub mod until_failure;\n", "", 1),
     (r"fold_by_key\.rs", r"\bB: Copy\b", "B: Clone", 1),
+    (r"fold_by_key\.rs", r"\(HashMap<K, B>, F\)(?=,$)", "(HashMap<K, B>, F, Option<B>)", 1),
+    (r"fold_by_key\.rs", r" so far and the closure\.", " so far, the closure, and what may stand in the place of a value while the closure has that.", 1),
     (r"fold_by_key\.rs", r"\bFault<E>(?=[,>])", "E", 1),
     (r"fold_by_key\.rs", r"^use fallible_iterator::\{Fault, Turn\};", "use fallible_iterator::Turn;", 1),
     # std has its own sums and products.
     (r"lib\.rs", r"^pub (?:mod total;|use total::Total;)\n", "", 2),
+    # What a refusal ends.
+    (r"lib\.rs", r"^pub mod gathering;\n", "", 1),
+    (r"traits\.rs", r"^use crate::gathering::gathered;\n", "", 1),
     (r"k_smallest\.rs", r"^// (?:Where the item|Inserts the|Moves the|Sorts the items in|Cuts what is kept, and)(?:.*\n)*?\}\n\n", "", 5),
     # What no user sees.
     (r"(?:keyed|parted)\.rs", r"^pub struct", "pub(crate) struct", 2),
@@ -108,10 +113,8 @@ ITERTOOLS = [
     (ADAPTERS + r"/err_into\.rs", r"^ *#\[derive_where\(.*\)\]\n", "", 2),
     (ADAPTERS + r"/err_into\.rs", r"(pub\(crate\) made: PhantomData<)E>", r"\1fn() -> E>", 1),
     (ADAPTERS + r"/err_into\.rs", r"\Z", (PIECES / "err_into.rs").read_text(encoding="utf-8"), 1),
-    # Without its number it can be cloned and shown.
-    (ADAPTERS + r"/stop_after\.rs", r"^pub struct StopAfter<", r"#[derive(Clone, Debug)]\n\g<0>", 1),
-    # What most types have.
-    (JOINS + r"/merge_tree\.rs", r"^(?=pub enum MergeTree<)", "#[derive(Clone, Debug)]\n", 1),
+    # Rust has no `derive_where`.
+    (JOINS + r"/kmerge(?:_by)?\.rs", r"^#\[derive_where\(.*\)\]\n", "", 4),
     (JOINS + r"/kmerge\.rs", r"\Z", (PIECES / "kmerge.rs").read_text(encoding="utf-8"), 1),
     (JOINS + r"/kmerge_by\.rs", r"\Z", (PIECES / "kmerge_by.rs").read_text(encoding="utf-8"), 1),
     (r"minmax\.rs", r"^impl<T: Copy> MinMaxResult<T>", "impl<T: Clone> MinMaxResult<T>", 1),
@@ -150,11 +153,11 @@ ITERTOOLS = [
     # What an adapter of one's own is made of, which no page tells.
     (r"lib\.rs", r" WithPosition,\s+staging,\n\};\n",
      " WithPosition,\n};\n#[doc(hidden)]\npub use crate::fallible_itertools_adapters::staging;\n", 1),
-    (r"lib\.rs", r"^pub (mod (?!traits;)\w+;)", r"\1", 27),
+    (r"lib\.rs", r"^pub (mod (?!traits;)\w+;)", r"\1", 25),
     (r"lib\.rs", r"^pub mod traits;", r"#[doc(hidden)]\n\g<0>", 1),
     (r"tail\.rs", r"^use std::collections::VecDeque;", "use alloc::collections::VecDeque;", 1),
-    (r"(?:all_unique|counts|group_map|join|k_smallest|partition_map|tail|until_failure)\.rs", r"\A(//.*\n\n)",
-     r"\1use fallible_iterator::memory::AllocError;\n", 8),
+    (r"(?:all_unique|counts|group_map|join|k_smallest|partition_map|tail)\.rs", r"\A(//.*\n\n)",
+     r"\1use fallible_iterator::memory::AllocError;\n", 7),
 ]
 
 # Collections of std that are made by Rust's own `collect`.
@@ -166,6 +169,6 @@ def to_rust(crate, files):
     if crate == "fallible-iterator":
         drop_files("map", files, LEFT_OUT)
     else:
-        drop_files("map", files, ["total.rs"])
+        drop_files("map", files, ["gathering.rs", "total.rs", "until_failure.rs"])
     apply("map", files, STD)
     apply("map", files, ITERATOR if crate == "fallible-iterator" else ITERTOOLS)

@@ -8,5 +8,6 @@ pub mod computing;
 pub mod consuming;
 pub mod equal;
 pub mod making;
+pub mod placing;
 pub mod ranges;
 pub mod sources;

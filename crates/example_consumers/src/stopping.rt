@@ -8,8 +8,7 @@ ghost use Rattle.fallible_itertools.specs.Equal.{contained, equal_to_first, equa
 ghost use Rattle.fallible_itertools.specs.FindOrLast.{found_or_first, found_or_last};
 ghost use Rattle.fallible_itertools.specs.FindPosition.{position_found};
 ghost use Rattle.fallible_itertools.specs.Positions.{positions_where};
-ghost use Rattle.fallible_itertools.specs.IsSortedBy.{in_order_by};
-ghost use Rattle.fallible_itertools.specs.IsSorted.{in_order, in_order_by_key};
+ghost use Rattle.fallible_itertools.specs.IsSorted.{in_order, in_order_by, in_order_by_key};
 ghost use Rattle.fallible_itertools.specs.FoldWhile.{rest_while, folded_while, value_of, is_done_at};
 ghost use Rattle.fallible_itertools.specs.declared.fold_while.FoldWhile.TheVariants.{Continue, Done};
 

@@ -90,8 +90,7 @@ where
     I::Error: Drop,
     requires { I.contract.can_next rows }
     ensures { (l : List (Result ℕ I.Error)) → Lists I.contract.steps rows l
-        → result ≡ counted (taken (2 ^ 64 - 1)
-        (recovered (λ _. Ok None) (stopped_after 100 (taken 1000 l)))) }
+        → result ≡ counted (recovered (λ _. Ok None) (stopped_after 100 (taken 1000 l))) }
 {
     rows.take(1000)
         .stop_after(100)

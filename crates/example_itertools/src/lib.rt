@@ -4,6 +4,7 @@
 pub mod batching;
 pub mod cloning;
 pub mod failing;
+pub mod grouping;
 pub mod holding;
 pub mod interspersing;
 pub mod joining;

@@ -15,6 +15,7 @@ pub mod Looped
 pub mod Loops
 pub mod LoopsAtEnds
 pub mod Making
+pub mod PassingMade
 pub mod Seen
 pub mod Sources
 pub mod Taking

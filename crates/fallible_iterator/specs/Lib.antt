@@ -1,5 +1,4 @@
 -- What the clauses of `src/` cite, and in `Laws` what follows from it: lemmas that the ghost members cite. What the clauses of the crates below cite is reexported, so that a crate above names this one alone.
-pub mod Agreement
 pub mod Answering
 pub mod Cycled
 pub mod Gathering

@@ -1,5 +1,5 @@
 -- What each type with two ends lists. `lists_source` says that from both ends a value of the source lists a list.
-use Rattle.std.specs.Prelude.{◌≡◌, ◌↔◌, List, [], ◌∷◌, reverse, Option, Some, None, MatchOption, Result, Ok, All}
+use Rattle.std.specs.Prelude.{◌≡◌, List, [], ◌∷◌, reverse, Option, Some, None, MatchOption, Result, Ok, All}
 use Rattle.std.specs.Borrow.{Bor}
 use Rattle.std.specs.Iterator.{YieldsFirst, YieldsLast}
 use Rattle.fallible_contract.specs.Traces.{Answered}
@@ -54,14 +54,6 @@ pub data ListsElements {V S A E Z : Type 0} (parts : V → S) (of_item : A → Z
 -- A source of one: what it holds, and nothing once that was drawn.
 abbrev pub ListsOne : {V B A E : Type 0} → (V → Option B) → (B → Result A E) → V → List (Result A E) → Type 0
 ListsOne held to s l = MatchOption (held s) (l ≡ []) (λ x. l ≡ to x ∷ [])
-
--- What stands before another value: just what that value lists.
-abbrev pub ListsTheSame : {V S A E : Type 0} → (V → S) → (S → List (Result A E) → Type 0) → (V → List (Result A E) → Type 0) → Type 0
-ListsTheSame {V = V} {A = A} {E = E} value lists_source lists = (s : V) (l : List (Result A E)) → lists s l ↔ lists_source (value s) l
-
--- What stands before another value: draws from its ends are just draws from the same ends of that value.
-abbrev pub DrawsTheSame : {V S A E : Type 0} → (V → S) → (S → List (Side × Answered A E) → S → Type 0) → (V → List (Side × Answered A E) → V → Type 0) → Type 0
-DrawsTheSame {V = V} {A = A} {E = E} value mixes_source mixes = (s : V) (drawn : List (Side × Answered A E)) (t : V) → mixes s drawn t ↔ mixes_source (value s) drawn (value t)
 
 -- If these answers can be drawn from the ends of s and leave t, what came from the front, what is left, and what came from the back, reversed, make l.
 abbrev pub DrawsInterleave : {S A E : Type 0} → (S → Answered A E → S → Type 0) → (S → Answered A E → S → Type 0) → List (Result A E) → S → List (Side × Answered A E) → S → Type 0

@@ -1,5 +1,5 @@
 -- Values that are made of items, each of which may fail to allocate.
-use Rattle.std.specs.Prelude.{◌≡◌, Some, Result, Ok, Err, List, [], ◌∷◌, ⊤, ◌⊎◌}
+use Rattle.std.specs.Prelude.{◌≡◌, ℕ, Option, Some, None, Result, Ok, Err, List, [], ◌∷◌, ⊤, ◌⊎◌}
 use Rattle.fallible_contract.specs.Traces.{Answered, end}
 use Rattle.fallible_contract.specs.Lists.{collected}
 pub use Rattle.fallible_core.specs.Refusing.{AnswersRefusal, IsMadeOf, IsRefusal}
@@ -19,9 +19,9 @@ module _ {X B E : Type 0} (made : X → B → Type 0) where
     abbrev pub AtRefusal : Answered B E → S → Type 0
     AtRefusal r t = AnswersRefusal from r ⊎ ((x : X) × (y : B) × made x y × (r ≡ Ok (Some y)) × RefusesNext steps from t)
 
-    -- Whatever is drawn from s, the answers are those of the list, in order, with values made of its items, and then an end. That holds up to an allocation failure and what was buffered before it. What comes after an allocation failure isn't stated.
+    -- Whatever is drawn from s, the answers are those of the list, in order, with values made of its items, and then an end. That holds up to an allocation failure and what was buffered before it, which may also stand in the place of the end. What comes after an allocation failure isn't stated.
     abbrev pub GivesMade : S → List (Result X E) → Type 0
-    GivesMade s [] = (r : Answered B E) (t : S) → steps s r t → r ≡ end
+    GivesMade s [] = (r : Answered B E) (t : S) → steps s r t → AtRefusal r t ⊎ (r ≡ end)
     GivesMade s (y ∷ l) = (r : Answered B E) (t : S) → steps s r t → AtRefusal r t ⊎ (IsMadeOf made y r × GivesMade t l)
 
     -- The answers of s, up to its first end, list l, with values made of its items; up to an allocation failure and what was buffered before it.
@@ -45,6 +45,17 @@ module _ {V B E : Type 0} (made : V → B → Type 0) (from : AllocError → E �
 -- The closure f acts as the function h on values: called on one that is made of x it returns a value made of h x, or an allocation failure; and it stays as it is.
 abbrev pub MakesOf : {X B Y C E F : Type 0} → (X → B → Type 0) → (Y → C → Type 0) → (AllocError → E → Type 0) → (F → B → Result C E → F → Type 0) → F → (X → Y) → Type 0
 MakesOf {X} {B} {Y} {C} {E} {F} of made from call f h = (x : X) (y : B) (r : Result C E) (g : F) → of x y → call f y r g → (g ≡ f) × IsToldOrRefused made from (Ok (h x)) r
+
+-- The value is made of the given one, or there is neither.
+abbrev pub OptionMade : {Y C : Type 0} → (Y → C → Type 0) → Option Y → Option C → Type 0
+OptionMade made (Some y) (Some c) = made y c
+OptionMade made (Some y) None = ⊥
+OptionMade made None (Some c) = ⊥
+OptionMade made None None = ⊤
+
+-- The number is the given one, and the value beside it is made of the given one.
+abbrev pub NumberedMade : {X B : Type 0} → (X → B → Type 0) → ℕ × X → ℕ × B → Type 0
+NumberedMade made p q = (q.0 ≡ p.0) × made p.1 q.1
 
 -- The same of a closure on the value so far and an item: where they are made of d and x it returns a value made of h d x, or an allocation failure.
 abbrev pub MakesWith : {X B D C E F : Type 0} → (X → B → Type 0) → (D → C → Type 0) → (AllocError → E → Type 0) → (F → C → B → Result C E → F → Type 0) → F → (D → X → D) → Type 0

@@ -1,5 +1,6 @@
 //! What an adapter, a search or a consumer of one's own is made of: what becomes of an item or of a failure, the turns of folds and searches, what is read off their results, the folds of the source, and the hints' arithmetic.
 pub use crate::batch::{alone, pushed};
+pub use fallible_contract::collecting::CollectTurn;
 pub use fallible_contract::comparing::{ReadEq, Reading, ordered};
 pub use fallible_contract::failing::{Fail, failed};
 pub use fallible_contract::folds::{Beside, CountTurn, FirstTurn, NthTurn, answer_within};

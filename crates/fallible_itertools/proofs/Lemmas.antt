@@ -6,16 +6,13 @@ pub mod CmpBy
 pub mod Contents
 pub mod Conversions
 pub mod Counts
-pub mod Equal
-pub mod FindOrLast
 pub mod FindPosition
 pub mod FoldByKey
 pub mod FoldWhile
 pub mod FromBack
+pub mod Gathering
 pub mod GroupMap
 pub mod InOrder
-pub mod IsSorted
-pub mod IsSortedBy
 pub mod Join
 pub mod Joined
 pub mod KSmallest
@@ -29,6 +26,8 @@ pub mod PartitionMap
 pub mod PositionBest
 pub mod Sorted
 pub mod SortedUnstable
+pub mod StepLists
+pub mod Stepping
 pub mod Tail
 pub mod Total
 pub mod UntilFailure

@@ -13,9 +13,9 @@ pub mod FindPosition
 pub mod FoldByKey
 pub mod FoldWhile
 pub mod FromBack
+pub mod Gathering
 pub mod GroupMap
 pub mod IsSorted
-pub mod IsSortedBy
 pub mod Join
 pub mod KSmallest
 pub mod Keyed
@@ -28,6 +28,7 @@ pub mod PartitionMap
 pub mod PositionBest
 pub mod Sorted
 pub mod SortedUnstable
+pub mod Stepping
 pub mod Tail
 pub mod Total
 pub mod UntilFailure

@@ -1,7 +1,9 @@
 //! The first item that passes, or else the last one or the first.
-ghost use Rattle.std.specs.Prelude.{◌≡◌, Ok};
+ghost use Rattle.std.specs.Prelude.{◌≡◌};
 ghost use Rattle.fallible_iterator.specs.Closures.{call_by_reference, takes_by_reference};
-ghost use Rattle.fallible_itertools.specs.FindOrLast.{IsFindOrTurn, first_kept, found_or, last_kept};
+ghost use Rattle.fallible_itertools_adapters.specs.Plan.{plan_takes};
+ghost use Rattle.fallible_itertools.specs.FindOrLast.{find_flow, first_kept, last_kept};
+ghost use Rattle.fallible_itertools.specs.Stepping.{StepTurns, by_call};
 
 use fallible_iterator::Turn;
 use std::ops::ControlFlow;
@@ -12,9 +14,9 @@ pub struct FindLastTurn;
 
 impl<A: Drop, E, F: FnMut(&A) -> Result<bool, E>> Turn<(Option<A>, F), A, Result<Option<A>, E>>
     for FindLastTurn {
-    ghost can_turn = { λ _ p x. takes_by_reference F.FnMut p.1 x };
+    ghost can_turn = { λ _ p x. plan_takes (takes_by_reference F.FnMut) (by_call (find_flow {E = E} last_kept)) p x };
 
-    ghost turns = { λ _ p x r q. IsFindOrTurn (call_by_reference F.FnMut) last_kept p x r q };
+    ghost turns = { λ _ p x r q. StepTurns (call_by_reference F.FnMut) (by_call (find_flow last_kept)) p x r q };
 
     /// Calls the predicate once. The item is the last one then.
     #[inline(always)]
@@ -46,9 +48,9 @@ pub struct FindFirstTurn;
 
 impl<A: Drop, E, F: FnMut(&A) -> Result<bool, E>> Turn<(Option<A>, F), A, Result<Option<A>, E>>
     for FindFirstTurn {
-    ghost can_turn = { λ _ p x. takes_by_reference F.FnMut p.1 x };
+    ghost can_turn = { λ _ p x. plan_takes (takes_by_reference F.FnMut) (by_call (find_flow {E = E} first_kept)) p x };
 
-    ghost turns = { λ _ p x r q. IsFindOrTurn (call_by_reference F.FnMut) first_kept p x r q };
+    ghost turns = { λ _ p x r q. StepTurns (call_by_reference F.FnMut) (by_call (find_flow first_kept)) p x r q };
 
     /// Calls the predicate once. The item is kept if it is the first.
     #[inline(always)]
@@ -61,16 +63,5 @@ impl<A: Drop, E, F: FnMut(&A) -> Result<bool, E>> Turn<(Option<A>, F), A, Result
             }
             Err(e) => ControlFlow::Break(Err(e)),
         }
-    }
-}
-
-/// Returns what a search found, or the item kept if it found nothing.
-pub fn or_kept<A: Drop, E>(found: Result<Option<A>, E>, kept: Option<A>) -> Result<Option<A>, E>
-    ensures { result ≡ found_or found (Ok kept) }
-{
-    match found {
-        Ok(Some(item)) => Ok(Some(item)),
-        Ok(None) => Ok(kept),
-        Err(e) => Err(e),
     }
 }

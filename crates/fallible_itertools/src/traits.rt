@@ -42,7 +42,7 @@ ghost use Rattle.fallible_itertools_adapters.specs.DedupByKey as dedup_by_key;
 ghost use Rattle.fallible_itertools_adapters.specs.DedupByWithCount.{dedup_by_with_count_contract, dedup_by_with_count_parts};
 ghost use Rattle.fallible_itertools_adapters.specs.DedupWithCount.{dedup_with_count_contract, dedup_with_count_parts};
 ghost use Rattle.fallible_itertools_adapters.specs.Duplicates.{duplicates_came, duplicates_contract, duplicates_of, duplicates_parts, duplicates_source};
-ghost use Rattle.fallible_itertools.specs.Equal.{FirstCall, TestCall, contained, equal_to_first, equal_value, rest_contained, rest_unequal, unequal_pick, value_or_both};
+ghost use Rattle.fallible_itertools.specs.Equal.{contained, equal_flow, equal_to_first, equal_value, first_or_both, rest_contained, rest_unequal, wanted_flow};
 ghost use Rattle.fallible_itertools_adapters.specs.ErrInto.{err_into_contract, err_into_parts};
 ghost use Rattle.fallible_itertools.specs.ExactlyOne.{AtMostOneDrains, at_most_one_of, wanting_one};
 ghost use Rattle.fallible_itertools_adapters.specs.FuseAtFailure.{fuse_at_failure_contract, fuse_at_failure_parts, up_to_failure};
@@ -61,15 +61,14 @@ ghost use Rattle.fallible_itertools.specs.MinMax.{MinMaxDrains, minmaxed, or_les
 ghost use Rattle.fallible_itertools.specs.MinMaxBy.{MinMaxCall, MinMaxKeyCall, MinMaxKeyDrains, minmaxed_by, minmaxed_by_key, takes_beside};
 ghost use Rattle.fallible_itertools_joins.specs.PadUsing as pad_using;
 ghost use Rattle.fallible_itertools.specs.PositionBest.{PlaceDrains, position_greatest, position_least};
-ghost use Rattle.fallible_itertools_adapters.specs.Plan.{passes, plan_can};
+ghost use Rattle.fallible_itertools_adapters.specs.Plan.{calls_nothing, passes, plan_can};
 ghost use Rattle.fallible_itertools_adapters.specs.Positions.{positions_contract, positions_parts, positions_source, positions_where};
 ghost use Rattle.fallible_itertools_adapters.specs.RunCounts.{count_plan, count_stops, deduped_by_with_count, deduped_with_count};
 ghost use Rattle.fallible_itertools.specs.Parted.{PartitionedFailuresAs, parted_step, without_source};
 ghost use Rattle.fallible_itertools.specs.PartitionMap.{EitherRefused, MadeOfEithers};
-ghost use Rattle.fallible_itertools.specs.FindOrLast.{FoundOrFirst, FoundOrLast, found_or_first, found_or_last};
+ghost use Rattle.fallible_itertools.specs.FindOrLast.{find_flow, first_kept, found_or_first, found_or_last, last_kept};
 ghost use Rattle.fallible_itertools.specs.FindPosition.{find_position_pick, position_found};
-ghost use Rattle.fallible_itertools.specs.IsSorted.{ItselfCall, OrderCall, in_order, in_order_by_key};
-ghost use Rattle.fallible_itertools.specs.IsSortedBy.{PairCall, in_order_by, takes_pair};
+ghost use Rattle.fallible_itertools.specs.IsSorted.{in_order, in_order_by, in_order_by_key, item_flow, key_flow, pair_step};
 ghost use Rattle.fallible_itertools.specs.Keyed.{keyed, keyed_contract};
 ghost use Rattle.fallible_itertools.specs.FoldByKey.{AddsValue, FoldedByKeyAs, FoldsByKey, IsKeyFoldOf, checked_folds, last_value};
 ghost use Rattle.fallible_itertools.specs.FoldWhile.{WhileCall, FoldWhileDrains, folded_while, rest_while};
@@ -77,6 +76,7 @@ ghost use Rattle.fallible_itertools.specs.KSmallest.{IsSmallestOf, SmallestRefus
 ghost use Rattle.fallible_itertools.specs.Tail.{IsTailOf, TailRefuses};
 ghost use Rattle.fallible_itertools.specs.Sorted.{CollectsSorted, HasItems, IsSortedByCalls, IsSortedByComparisons, IsSortedByKeyOf, IsSortedByTest, IsSortedOf};
 ghost use Rattle.fallible_itertools.specs.SortedUnstable.{CollectsInPlace, HasItemsInOrder, HasItemsInOrderByCalls, HasItemsInOrderByComparisons, HasItemsInOrderByKey, HasItemsInOrderByTest};
+ghost use Rattle.fallible_itertools.specs.Stepping.{CallableStepping, ConsumedBy, Consumes, at_once, by_call, stop_or, stop_or_kept, whether_stopped};
 ghost use Rattle.fallible_itertools_joins.specs.Sides as sides;
 ghost use Rattle.fallible_itertools_adapters.specs.StopAfter.{stop_after_contract, stop_after_items, stop_after_parts, stopped_after};
 ghost use Rattle.fallible_itertools_adapters.specs.Staging.{MayMeet};
@@ -101,14 +101,14 @@ use crate::checked_sum::{CheckedTotal, ProductTurn, SumTurn, total_or_none};
 use crate::cmp_by::{CmpTurn, EqTurn, compare_by};
 use crate::converting::converted;
 use crate::counts::Tally;
-use crate::equal::{AllEqualTurn, ContainsTurn, UnequalTurn, first_or_both};
+use crate::equal::{ContainsTurn, EqualTurn, first_or_both, whether_stopped};
 use crate::exactly_one::NotOne;
-use crate::find_or_last::{FindFirstTurn, FindLastTurn, or_kept};
+use crate::find_or_last::{FindFirstTurn, FindLastTurn};
 use crate::find_position::FindPositionTurn;
 use crate::fold_while::{FoldWhile, FoldWhileTurn, while_or_stop};
+use crate::gathering::gathered;
 use crate::group_map::GroupMap;
-use crate::is_sorted::{IsSortedByKeyTurn, IsSortedTurn};
-use crate::is_sorted_by::IsSortedByTurn;
+use crate::is_sorted::{IsSortedByKeyTurn, IsSortedByTurn, IsSortedTurn};
 use crate::join::JoinTurn;
 use crate::keyed::Keyed;
 use crate::minmax::{MinMaxResult, MinMaxTurn, lesser_first};
@@ -116,11 +116,11 @@ use crate::minmax_by::{find_both_by, find_both_by_key};
 use crate::parted::{Parted, without_fault};
 use crate::partition_map::Either;
 use crate::position_best::{first_is_less, place_alone};
-use crate::until_failure::{PushTurn, with_failure};
+use crate::until_failure::with_failure;
 use crate::{k_smallest, sorted, sorted_unstable, tail};
 use fallible_iterator::extending::{
-    FindTest, FindTurn, ForEachTurn, PositionTurn, ReadEq, Reading, answer_or, answer_or_none,
-    found, ordered,
+    CollectTurn, FindTest, FindTurn, ForEachTurn, PositionTurn, ReadEq, Reading, answer_or,
+    answer_or_none, found, ordered,
 };
 use fallible_iterator::{Collect, FallibleIterator, Fault, IntoFallibleIterator};
 use fallible_itertools_adapters::{
@@ -578,8 +578,9 @@ pub trait FallibleItertools: FallibleIterator {
         Self::Item: PartialEq + Drop,
         requires can_next { Self.contract.can_next self.old }
         requires finite { Self.contract.is_finite self.old }
-        ensures searched { search.SearchDrains (TestCall (λ x. Self.Item.eq x wanted.now))
-            search.any_pick Self.contract.steps false self.old tt result self.new tt }
+        ensures searched { Consumes (calls_nothing {F = Unit {0}}) (at_once (wanted_flow Self.Item.eq wanted.now))
+            Self.contract.steps (λ answer _. whether_stopped true answer) self.old tt tt result self.new
+            tt }
         ensures value { OverList Self.contract.steps self.old
             (λ l. result ≡ contained Self.Item.eq wanted.now l) }
         ensures rest { OverList Self.contract.steps self.old
@@ -587,7 +588,7 @@ pub trait FallibleItertools: FallibleIterator {
             → list.Lists Self.contract.steps self.new (rest_contained Self.Item.eq wanted.now l)) }
         ensures stays { Stays Self.contract self.old self.new }
     {
-        answer_or(self.drive(&mut (), &ContainsTurn { wanted }), false)
+        whether_stopped(self.drive(&mut ((), ()), &ContainsTurn { wanted }), true)
     }
 
     /// Returns whether the first item equals each later one; true if there is no item.
@@ -608,8 +609,8 @@ pub trait FallibleItertools: FallibleIterator {
         Self::Item: PartialEq + Drop,
         requires can_next { Self.contract.can_next self.old }
         requires finite { Self.contract.is_finite self.old }
-        ensures searched { (first : Option Self.Item) × search.SearchDrains (FirstCall Self.Item.eq)
-            search.all_pick Self.contract.steps true self.old None result self.new first }
+        ensures searched { Consumes (calls_nothing {F = Unit {0}}) (at_once (equal_flow Self.Item.eq)) Self.contract.steps
+            (λ answer _. whether_stopped false answer) self.old None tt result self.new tt }
         ensures value { OverList Self.contract.steps self.old
             (λ l. result ≡ equal_to_first Self.Item.eq l) }
         ensures rest { OverList Self.contract.steps self.old
@@ -617,7 +618,7 @@ pub trait FallibleItertools: FallibleIterator {
             → list.Lists Self.contract.steps self.new (rest_unequal Self.Item.eq l)) }
         ensures stays { Stays Self.contract self.old self.new }
     {
-        answer_or(self.drive(&mut None, &AllEqualTurn), true)
+        whether_stopped(self.drive(&mut (None, ()), &EqualTurn), false)
     }
 
     /// Returns whether no two items are equal; true if there is no item.
@@ -679,9 +680,8 @@ pub trait FallibleItertools: FallibleIterator {
         Self::Item: PartialEq + Drop,
         requires can_next { Self.contract.can_next self.old }
         requires finite { Self.contract.is_finite self.old }
-        ensures searched { (first : Option Self.Item) × (found : Result (Option Self.Item) Self.Error)
-            × search.SearchDrains (FirstCall Self.Item.eq) unequal_pick Self.contract.steps None
-            self.old None found self.new first × (result ≡ value_or_both first found) }
+        ensures searched { Consumes (calls_nothing {F = Unit {0}}) (at_once (equal_flow Self.Item.eq)) Self.contract.steps
+            first_or_both self.old None tt result self.new tt }
         ensures value { OverList Self.contract.steps self.old
             (λ l. result ≡ equal_value Self.Item.eq l) }
         ensures rest_unequal { OverList Self.contract.steps self.old
@@ -692,9 +692,10 @@ pub trait FallibleItertools: FallibleIterator {
             → list.Lists Self.contract.steps self.new (rest_unequal Self.Item.eq l)) }
         ensures stays { Stays Self.contract self.old self.new }
     {
-        let mut first = None;
-        let found = answer_or_none(self.drive(&mut first, &UnequalTurn));
-        first_or_both(first, found)
+        let mut state = (None, ());
+        let answer = self.drive(&mut state, &EqualTurn);
+        let (first, _) = state;
+        first_or_both(answer, first)
     }
 
     /// Returns the first item on which the predicate returns true, beside how many items come before it; `Ok(None)` if there is none.
@@ -756,17 +757,17 @@ pub trait FallibleItertools: FallibleIterator {
         F: FnMut(&Self::Item) -> Result<bool, Self::Error>,
         requires can_next { Self.contract.can_next self }
         requires finite { Self.contract.is_finite self }
-        requires callable { search.CallableInSearch (call_by_reference F.FnMut) search.find_pick
-            Self.contract.steps (takes_by_reference F.FnMut) self f }
-        ensures found { (left : Self) × (g : F)
-            × FoundOrLast (call_by_reference F.FnMut) Self.contract.steps self f result left g }
+        requires callable { CallableStepping (call_by_reference F.FnMut) (by_call (find_flow last_kept))
+            Self.contract.steps (takes_by_reference F.FnMut) self None f }
+        ensures found { ConsumedBy (call_by_reference F.FnMut) (by_call (find_flow last_kept))
+            Self.contract.steps stop_or_kept self None f result }
         ensures value { OverListWith (list.Acts (call_by_reference F.FnMut) f) Self.contract.steps self
             (λ h l. result ≡ found_or_last h l) }
     {
         let mut state = (None, f);
         let answer = self.drive(&mut state, &FindLastTurn);
         let (last, _) = state;
-        or_kept(answer_or_none(answer), last)
+        answer_or(answer, last)
     }
 
     /// Returns the first item on which the predicate returns true, or the first item of all if there is none; `Ok(None)` if there is no item.
@@ -791,17 +792,17 @@ pub trait FallibleItertools: FallibleIterator {
         F: FnMut(&Self::Item) -> Result<bool, Self::Error>,
         requires can_next { Self.contract.can_next self }
         requires finite { Self.contract.is_finite self }
-        requires callable { search.CallableInSearch (call_by_reference F.FnMut) search.find_pick
-            Self.contract.steps (takes_by_reference F.FnMut) self f }
-        ensures found { (left : Self) × (g : F)
-            × FoundOrFirst (call_by_reference F.FnMut) Self.contract.steps self f result left g }
+        requires callable { CallableStepping (call_by_reference F.FnMut) (by_call (find_flow first_kept))
+            Self.contract.steps (takes_by_reference F.FnMut) self None f }
+        ensures found { ConsumedBy (call_by_reference F.FnMut) (by_call (find_flow first_kept))
+            Self.contract.steps stop_or_kept self None f result }
         ensures value { OverListWith (list.Acts (call_by_reference F.FnMut) f) Self.contract.steps self
             (λ h l. result ≡ found_or_first h l) }
     {
         let mut state = (None, f);
         let answer = self.drive(&mut state, &FindFirstTurn);
         let (first, _) = state;
-        or_kept(answer_or_none(answer), first)
+        answer_or(answer, first)
     }
 
     /// Returns the sum of the items, 0 for none. If it overflows at one of them, it returns `Ok(None)`.
@@ -977,11 +978,10 @@ pub trait FallibleItertools: FallibleIterator {
         F: FnMut(Self::Item) -> Result<K, Self::Error>,
         requires can_next { Self.contract.can_next self }
         requires finite { Self.contract.is_finite self }
-        requires callable { search.CallableInSearch (OrderCall K.partial_cmp (call_by_value F.FnMut))
-            search.all_pick Self.contract.steps (λ p x. takes_by_value F.FnMut p.1 x) self (None, f) }
-        ensures sorted { (left : Self) × (q : Option K × F)
-            × search.SearchDrains (OrderCall K.partial_cmp (call_by_value F.FnMut)) search.all_pick
-            Self.contract.steps true self (None, f) result left q }
+        requires callable { CallableStepping (call_by_value F.FnMut) (by_call (key_flow K.partial_cmp))
+            Self.contract.steps (takes_by_value F.FnMut) self None f }
+        ensures sorted { ConsumedBy (call_by_value F.FnMut) (by_call (key_flow K.partial_cmp))
+            Self.contract.steps (stop_or true) self None f result }
         ensures value { (order : K → K → Option Ordering) → order ≡ K.partial_cmp
             → OverListWith (list.Acts (call_by_value F.FnMut) f) Self.contract.steps self
             (λ h l. result ≡ in_order_by_key order h l) }
@@ -1009,11 +1009,10 @@ pub trait FallibleItertools: FallibleIterator {
         F: FnMut(&Self::Item, &Self::Item) -> Result<bool, Self::Error>,
         requires can_next { Self.contract.can_next self }
         requires finite { Self.contract.is_finite self }
-        requires callable { search.CallableInSearch (PairCall (call_at_two F.FnMut))
-            search.all_pick Self.contract.steps (takes_pair (takes_at_two F.FnMut)) self (None, f) }
-        ensures sorted { (left : Self) × (q : Option Self.Item × F)
-            × search.SearchDrains (PairCall (call_at_two F.FnMut)) search.all_pick
-            Self.contract.steps true self (None, f) result left q }
+        requires callable { CallableStepping (same_call F.FnMut) pair_step Self.contract.steps
+            (same_takes F.FnMut) self None f }
+        ensures sorted { ConsumedBy (same_call F.FnMut) pair_step Self.contract.steps (stop_or true) self
+            None f result }
         ensures value { OverListWith (list.ActsWith (call_at_two F.FnMut) f) Self.contract.steps self
             (λ h l. result ≡ in_order_by h l) }
     {
@@ -1041,9 +1040,8 @@ pub trait FallibleItertools: FallibleIterator {
         Self::Item: PartialOrd + Drop,
         requires can_next { Self.contract.can_next self }
         requires finite { Self.contract.is_finite self }
-        ensures sorted { (left : Self) × (q : Option Self.Item × Unit {0})
-            × search.SearchDrains (OrderCall Self.Item.partial_cmp ItselfCall) search.all_pick
-            Self.contract.steps true self (None, tt) result left q }
+        ensures sorted { ConsumedBy (calls_nothing {F = Unit {0}}) (at_once (item_flow Self.Item.partial_cmp)) Self.contract.steps
+            (stop_or true) self None tt result }
         ensures value { (order : Self.Item → Self.Item → Option Ordering)
             → order ≡ Self.Item.partial_cmp
             → OverList Self.contract.steps self (λ l. result ≡ in_order order l) }
@@ -1280,7 +1278,7 @@ pub trait FallibleItertools: FallibleIterator {
     where
         I: IntoFallibleIterator<Item = Self::Item, Error = Self::Error>,
         Self::Item: PartialOrd + Drop,
-        ensures begun { BothBegun self I.into_gives other (merge_parts result) }
+        ensures begun { BothBegun self I.into_gives other ((None, None), tt) (merge_parts result) }
         ensures bounded { (a b k : ℕ) → Self.contract.bound self a
             → I.IntoFallibleIter.contract.bound
             (sides.right_source (merge_parts result)) b → a + b ≤ k
@@ -1321,7 +1319,8 @@ pub trait FallibleItertools: FallibleIterator {
             → IsCallable (sides.call_on_two (call_at_two F.FnMut))
             (λ g z. takes_at_two F.FnMut g z.0 z.1) (λ z. Self.contract.may_give self z.0
             × I.IntoFallibleIter.contract.may_give right z.1) f }
-        ensures begun { BothBegun self I.into_gives other (merge_by.merge_by_parts result) }
+        ensures begun { BothBegun self I.into_gives other ((None, None), f)
+            (merge_by.merge_by_parts result) }
         ensures closure { sides.asked_closure (merge_by.merge_by_parts result) ≡ f }
         ensures bounded { (a b k : ℕ) → Self.contract.bound self a
             → I.IntoFallibleIter.contract.bound
@@ -1369,7 +1368,8 @@ pub trait FallibleItertools: FallibleIterator {
             → IsCallable (sides.call_on_two (join_by.call_at_both F.FnMut))
             (λ g z. join_by.takes_at_both F.FnMut g z.0 z.1) (λ z. Self.contract.may_give self z.0
             × I.IntoFallibleIter.contract.may_give right z.1) f }
-        ensures begun { BothBegun self I.into_gives other (join_by.merge_join_by_parts result) }
+        ensures begun { BothBegun self I.into_gives other ((None, None), f)
+            (join_by.merge_join_by_parts result) }
         ensures closure { sides.asked_closure (join_by.merge_join_by_parts result) ≡ f }
         ensures bounded { (a b k : ℕ) → Self.contract.bound self a
             → I.IntoFallibleIter.contract.bound
@@ -1411,11 +1411,11 @@ pub trait FallibleItertools: FallibleIterator {
     final fn zip_longest<I>(self, other: I) -> ZipLongest<Self, I::IntoFallibleIter>
     where
         I: IntoFallibleIterator<Error = Self::Error>,
-        ensures begun { BothBegun self I.into_gives other
-            (zip_longest.zip_longest_parts {B = I.Item} result) }
+        ensures begun { BothBegun self I.into_gives other None
+            (zip_longest.zip_longest_parts result) }
         ensures bounded { (a b k : ℕ) → Self.contract.bound self a
             → I.IntoFallibleIter.contract.bound
-            (sides.right_source (zip_longest.zip_longest_parts {B = I.Item} result)) b → a + b ≤ k
+            (sides.right_source (zip_longest.zip_longest_parts result)) b → a + b ≤ k
             → AtMost (seen_as zip_longest.zip_longest_parts
             (zip_longest.zip_longest_contract Self.contract I.IntoFallibleIter.contract)) result k }
         ensures lists { OverBoth Self.contract.steps self I.into_gives other
@@ -1451,11 +1451,12 @@ pub trait FallibleItertools: FallibleIterator {
         I: IntoFallibleIterator<Error = Self::Error>,
         F: FnMut() -> Self::Error,
         requires { IsCallable (call_of_none F.FnMut) (λ g _. F.pre g) (λ _. ⊤) unequal }
-        ensures begun { BothBegun self I.into_gives other (zip_eq.zip_eq_parts {B = I.Item} result) }
-        ensures closure { sides.asked_closure (zip_eq.zip_eq_parts {B = I.Item} result) ≡ unequal }
+        ensures begun { BothBegun self I.into_gives other (None, unequal)
+            (zip_eq.zip_eq_parts result) }
+        ensures closure { sides.asked_closure (zip_eq.zip_eq_parts result) ≡ unequal }
         ensures bounded { (a b k : ℕ) → Self.contract.bound self a
             → I.IntoFallibleIter.contract.bound
-            (sides.right_source (zip_eq.zip_eq_parts {B = I.Item} result)) b → a + b ≤ k
+            (sides.right_source (zip_eq.zip_eq_parts result)) b → a + b ≤ k
             → AtMost (seen_as zip_eq.zip_eq_parts (zip_eq.zip_eq_contract Self.contract
             I.IntoFallibleIter.contract F.FnMut)) result k }
         ensures lists { (e : Self.Error) → list.Acts (call_of_none F.FnMut) unequal (λ _. e)
@@ -1532,9 +1533,9 @@ pub trait FallibleItertools: FallibleIterator {
         ensures ended { pad_using.pad_using_ended result ≡ false }
         ensures indices { pad_using.pad_using_indices result ≡ (0, n) }
         ensures closure { pad_using.pad_using_closure result ≡ f }
-        ensures callable { IsCallable (pad_using.pad_call F.FnMut) (pad_using.pad_takes F.FnMut)
-            ((pad_using.beside_index_contract Self.contract).may_give
-            (pad_using.pad_using_parts result).0) f }
+        ensures callable { IsCallable (call_by_value F.FnMut) (takes_by_value F.FnMut)
+            ((pad_using.index_contract {E = Self.Error}).may_give
+            (pad_using.pad_using_indices result)) f }
         ensures bounded { (a k : ℕ) → Self.contract.bound self a → a + n ≤ k
             → AtMost (seen_as pad_using.pad_using_parts
             (pad_using.pad_using_contract Self.contract F.FnMut)) result k }
@@ -1953,7 +1954,7 @@ pub trait FallibleItertools: FallibleIterator {
             Ok(made) => made,
             Err(refused) => return Err(refused),
         };
-        let answer = self.drive(&mut made, &PushTurn);
+        let answer = self.drive(&mut made, &CollectTurn);
         with_failure(answer, made)
     }
 
@@ -2000,6 +2001,8 @@ pub trait FallibleItertools: FallibleIterator {
     /// Returns for each key that the first closure makes of the items what the second folds its items to, as a map. A key of the map is the first of equal ones, its value the fold of the items with an equal key, in order, from `init` on.
     ///
     /// It draws up to `Ok(None)` or the first failure, of this iterator or of a closure. It fails with that failure. On each item the first closure is called, through a reference, and then the second, on the value so far of the item's key. It consumes the iterator.
+    ///
+    /// Rattle copies values. In Rust `init` is cloned once for each key, and at most once more; of a type that drops nothing, as a number, the value so far is cloned at each item.
     ///
     /// Precondition: the iterator is finite.
     ///
@@ -2414,11 +2417,8 @@ pub trait FallibleItertools: FallibleIterator {
             (λ l. ContentsOf (JoinedAs Self.Item.output separator.now) l result) }
     {
         let mut state = (false, String::new(alloc));
-        match self.drive(&mut state, &JoinTurn { separator }) {
-            Ok(None) => Ok(state.1),
-            Ok(Some(refused)) => Err(Fault::Memory(refused)),
-            Err(e) => Err(Fault::Source(e)),
-        }
+        let answer = self.drive(&mut state, &JoinTurn { separator });
+        gathered(answer, state.1)
     }
 
     /// Returns the `k` least items in a `Vec`, in order, or all if fewer come. Equal items keep their order, and the first of them are kept. It keeps at most twice `k` items at a time.
@@ -2497,11 +2497,8 @@ pub trait FallibleItertools: FallibleIterator {
             (λ l. ContentsOf (IsTailOf deque_items n) l result) }
     {
         let mut kept = VecDeque::new(alloc);
-        match self.drive(&mut kept, &tail::TailTurn { n }) {
-            Ok(None) => Ok(kept),
-            Ok(Some(refused)) => Err(Fault::Memory(refused)),
-            Err(e) => Err(Fault::Source(e)),
-        }
+        let answer = self.drive(&mut kept, &tail::TailTurn { n });
+        gathered(answer, kept)
     }
 
     /// Compares two iterators by the closure, which is called on the two items of each round. The first two that aren't equal decide. If there are none, the side that ends alone is less.

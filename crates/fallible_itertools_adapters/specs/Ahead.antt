@@ -1,5 +1,5 @@
 -- The contract of an adapter that looks ahead: what it yields is a function of what its source lists.
-use Rattle.std.specs.Prelude.{◌≡◌, ◌<◌, Some, None, Ok, Err, ⊤, Result, List}
+use Rattle.std.specs.Prelude.{◌≡◌, ◌<◌, Some, None, Ok, Err, ⊤, Result, List, [], ◌∷◌}
 use Rattle.std.specs.Iterator.{IsFinite, size}
 use Rattle.fallible_iterator.specs.Traces.{Answered, Run, end}
 use Rattle.fallible_iterator.specs.Contract.{Contract, Fewer, KeptByDraws}
@@ -24,6 +24,16 @@ module _ {P A E B F : Type 0} (m : Contract P A E) where
     pub first : (l : List (Result A E)) → Lists m.steps s l → r ≡ nth_of 0 (answers l)
     pub rest : (l : List (Result A E)) → Lists m.steps s l → (r ≡ end → ⊥) → Lists m.steps t (left l)
 
+  -- A trace that leaves t, made of a list: each answer up to the first end is the first that `answers` makes of what is left of it. If none is an end, t lists what is left after them.
+  abbrev pub MakesFrom : (List (Result A E) → List (Result B F)) → (List (Result A E) → List (Result A E)) → List (Result A E) → List (Answered B F) → P → Type 0
+  MakesFrom answers left l [] t = Lists m.steps t l
+  MakesFrom answers left l (r ∷ rest) t = (r ≡ nth_of 0 (answers l)) × ((r ≡ end → ⊥) → MakesFrom answers left (left l) rest t)
+
+-- Draws from s return the trace and leave t: it is made of each list of the source, and each draw is a step.
+pub record MakesAll {S P A E B F : Type 0} (view : S → P) (answers : List (Result A E) → List (Result B F)) (left : List (Result A E) → List (Result A E)) (m : Contract P A E) (s : S) (trace : List (Answered B F)) (t : S) : Type 0 where
+  pub made : (l : List (Result A E)) → Lists m.steps (view s) l → MakesFrom m answers left l trace (view t)
+  pub ran : Run (λ u r v. TakesMade m answers left (view u) r (view v)) s trace t
+
 -- The contract of an adapter over m, over finite sources alone: it yields what `answers` makes of the source's list, and each answer leaves of that list what `left` leaves. It has the source's bounds.
 abbrev pub making : {S P A E B F : Type 0} → (S → P) → (List (Result A E) → List (Result B F)) → (List (Result A E) → List (Result A E)) → Contract P A E → Contract S B F
 making view answers left m = record {
@@ -36,6 +46,6 @@ making view answers left m = record {
   may_fail = λ _ _. ⊤;
   hints = λ _ h. h ≡ (0, None);
   lenders = λ s. m.lenders (view s);
-  traces = λ s trace t. Run (λ u r v. TakesMade m answers left (view u) r (view v)) s trace t;
+  traces = MakesAll view answers left m;
   sound = own_sound (λ s r t. TakesMade m answers left (view s) r (view t));
 }

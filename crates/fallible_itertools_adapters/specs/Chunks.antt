@@ -1,5 +1,6 @@
 -- `Chunks`, which yields batches of n items.
-use Rattle.std.specs.Prelude.{◌≡◌, ℕ, ◌+◌, ◌-◌, ◌/◌, ◌<◌, ◌≤◌, max, cond, leb, ltb, Bool, true, false, Option, Some, None, Result, Ok, Err, List, [], ◌∷◌, ◌++◌, length, ⊤, vec_items}
+use Rattle.std.specs.Prelude.{◌≡◌, ℕ, ◌<◌, ◌≤◌, max, ltb, Bool, true, false, Option, Some, None, Result, Ok, Err, List, [], ◌∷◌, ◌++◌, length, ⊤, vec_items}
+use Rattle.std.specs.Int.{div_ceil}
 use Rattle.fallible_iterator.specs.Traces.{Answered, item}
 use Rattle.fallible_iterator.specs.Contract.{Contract, Inverse}
 use Rattle.fallible_iterator.specs.Hints.{fitting_sum}
@@ -45,18 +46,9 @@ batch_held h = held_one h.1
 
 -- ---- its hint
 
--- how many items the batch that is held takes yet, of which the next one is in any case one; none if none is held
-abbrev pub room_left : {A : Type 0} → ℕ → Option (Vec A Global) → ℕ
-room_left n None = 0
-room_left n (Some v) = max 1 (n - vec_count v)
-
--- how many batches k items begin, where the first of them go into the room that is left, and from then on one of n begins a batch
-abbrev pub begun : ℕ → ℕ → ℕ → ℕ
-begun n room k = cond (leb k room) 0 (1 + (k - 1 - room) / max n 1)
-
--- at least the batch that is held and those that the source's items begin, and at most the one that is held and as many as the source has items, if that fits
-abbrev pub batches_hint : {A : Type 0} → ℕ × Option (Vec A Global) → ℕ × Option ℕ → ℕ × Option ℕ
-batches_hint h k = (held_one h.1 + begun h.0 (room_left h.0 h.1) k.0, fitting_sum k.1 (Some (held_one h.1)))
+-- at least as many batches as n items a batch make of the source's, and at most the one that is held and as many as the source has items, if that fits
+abbrev pub batches_hint : {V : Type 0} → ℕ × Option V → ℕ × Option ℕ → ℕ × Option ℕ
+batches_hint h k = (div_ceil k.0 (max h.0 1), fitting_sum k.1 (Some (held_one h.1)))
 
 abbrev pub chunks_hint_plan : {A E : Type 0} → ℕ × Option (Vec A Global) → Option (Option E) → HintPlan
 chunks_hint_plan h due = hint_unless_end (calls tt (batches_hint h)) due

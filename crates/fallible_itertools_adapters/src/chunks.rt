@@ -1,10 +1,10 @@
 // The adapter that yields batches of items.
-ghost use Rattle.std.specs.Prelude.{◌≡◌, ◌+◌, ⊤, MatchResult, None, Option, Result};
+ghost use Rattle.std.specs.Int.{div_ceil};
+ghost use Rattle.std.specs.Prelude.{◌≡◌, ⊤, MatchResult, None, Option, Result, max};
 ghost use Rattle.fallible_iterator.specs.Contract.{parts_as};
 ghost use Rattle.fallible_iterator.specs.Laws.Contract.{lawful_parts};
 ghost use Rattle.fallible_itertools_adapters.specs.Batch.{GrownTo, NoRoom, SameHeld};
-ghost use Rattle.fallible_itertools_adapters.specs.BeforeStop.{held_one};
-ghost use Rattle.fallible_itertools_adapters.specs.Chunks.{batch_held, begun, chunks_contract, chunks_made, chunks_parts, chunks_plan, chunks_stops, puts, room_left, vec_count};
+ghost use Rattle.fallible_itertools_adapters.specs.Chunks.{batch_held, chunks_contract, chunks_made, chunks_parts, chunks_plan, chunks_stops, puts, vec_count};
 ghost use Rattle.fallible_itertools_adapters.specs.Laws.Chunks.{is_stage_chunks, lawful_chunks};
 ghost use Rattle.fallible_itertools_adapters.specs.Plan.{plan_item, plan_meets, plan_stop};
 ghost use Rattle.fallible_itertools_adapters.specs.Staging.{DrawsUpTo, stop_comes};
@@ -71,7 +71,7 @@ where
             Some(None) => (0, Some(0)),
             _ => {
                 let hint = self.it.size_hint();
-                let low = batches(hint.0, self.stage.0.0.0, &self.stage.0.0.1);
+                let low = batches(hint.0, self.stage.0.0.0);
                 (low, with_held(hint, self.stage.0.0.1.is_some()).1)
             }
         }
@@ -201,23 +201,10 @@ fn grown<X: Drop>(
     }
 }
 
-// How many batches so many items make, with the buffered one.
-fn batches<X>(low: usize, n: usize, held: &Option<Vec<X>>) -> usize
-    ensures { result ≡ held_one held.now + begun n (room_left n held.now) low }
+// How many batches of n items so many items make.
+fn batches(items: usize, n: usize) -> usize
+    ensures { result ≡ div_ceil items (max n 1) }
 {
-    match held {
-        None => begun_of(low, n, 0),
-        Some(batch) => 1 + begun_of(low, n, n.saturating_sub(batch.len()).max(1)),
-    }
-}
-
-// How many batches so many items begin, of which the first go into that room.
-fn begun_of(low: usize, n: usize, room: usize) -> usize
-    ensures { result ≡ begun n room low }
-{
-    if low <= room {
-        0
-    } else {
-        1 + (low - 1 - room) / n.max(1)
-    }
+    let n = n.max(1);
+    items / n + (items % n).min(1)
 }

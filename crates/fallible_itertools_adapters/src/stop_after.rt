@@ -8,7 +8,7 @@ ghost use Rattle.fallible_itertools_adapters.specs.Laws.StopAfter.{lawful_stop_a
 use fallible_iterator::{FallibleIterator, Number};
 
 /// What the source returns up to its n-th failure, and that one too. Then each call returns `Ok(None)`. Items and `Ok(None)` of the source pass, and don't count.
-#[derive(Drop)]
+#[derive(Clone, Debug, Drop)]
 pub struct StopAfter<I> {
     pub(crate) it: I,
     // how many failures it still yields

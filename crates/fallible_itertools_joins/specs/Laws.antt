@@ -7,10 +7,9 @@ pub mod MergeBy
 pub mod MergeJoinBy
 pub mod MergeTree
 pub mod MergeTreeTraces
-pub mod OverTraces
 pub mod PadUsing
 pub mod Sides
 pub mod SidesHints
-pub mod SidesTraces
+pub mod Taken
 pub mod ZipEq
 pub mod ZipLongest

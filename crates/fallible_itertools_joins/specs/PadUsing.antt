@@ -3,19 +3,16 @@ use Rattle.std.specs.Prelude.{◌≡◌, ℕ, zero, suc, ◌+◌, ◌-◌, ◌<�
 use Rattle.std.specs.Fn.{Mut}
 use Rattle.std.specs.Iterator.{at_most}
 use Rattle.fallible_iterator.specs.BothEnds.{items_listed}
-use Rattle.fallible_iterator.specs.Traces.{Answered, item, end}
-use Rattle.fallible_iterator.specs.Closures.{IsCallable, call_by_value, takes_by_value}
-use Rattle.fallible_iterator.specs.Contract.{Contract, no_lenders, parts_as, Inverse}
 use Rattle.fallible_iterator.specs.Cutting.Fuse.{fuse_ended, fuse_source}
-use Rattle.fallible_iterator.specs.OneToOne.Map.{map_outcome}
-use Rattle.fallible_iterator.specs.Passing.{passes_all, passing_contract}
-use Rattle.fallible_iterator.specs.Sound.{as_source, sound_always}
+use Rattle.fallible_iterator.specs.Sound.{sound_always}
+use Rattle.fallible_iterator.specs.Traces.{Answered, item, end}
+use Rattle.fallible_iterator.specs.Closures.{IsCallable, MayAnswer, call_by_value, takes_by_value}
+use Rattle.fallible_iterator.specs.Contract.{Contract, no_lenders, Inverse}
+use Rattle.fallible_iterator.specs.Lists.{result_answer}
 use Rattle.fallible_iterator.specs.Fuse.{Fuse}
-use Rattle.fallible_itertools_joins.specs.Sides.{fused_contract, sides_contract, sides_step}
-use Rattle.fallible_itertools_joins.specs.ZipLongest.{ZipLongestTrace, hint_greater, longest_rule}
+use Rattle.fallible_itertools_joins.specs.Sides.{Join, fused_contract, holding, join_as, join_contract, joins_all}
+use Rattle.fallible_itertools_joins.specs.ZipLongest.{hint_greater}
 use Rattle.fallible_itertools_joins.specs.declared.pad_using.PadUsing.{PadUsing}
-use Rattle.fallible_itertools_joins.specs.declared.zip_longest.EitherOrBoth.{EitherOrBoth}
-use Rattle.fallible_itertools_joins.specs.declared.zip_longest.EitherOrBoth.TheVariants.{Both, Left, Right}
 use Rattle.std.proofs.Common.{refl}
 
 -- ---- the indices below n
@@ -61,72 +58,48 @@ index_contract = record {
 
 -- ---- the source beside them
 
--- the source and the indices as two sides, of which nothing is held
-abbrev pub both_sides : {S A : Type 0} → S × (ℕ × ℕ) → (S × Option A) × ((ℕ × ℕ) × Option ℕ) × Unit {0}
-both_sides p = ((p.0, None), (p.1, None), tt)
+module _ {A E F : Type 0} (call : F → ℕ → Result A E → F → Type 0) where
+  -- An item is yielded as it is, beside its index; where an index is alone, what the closure returns for it.
+  abbrev pub MakesPadded : F → Option A → Option ℕ → Answered A E × (Option A × Option ℕ) → F → Type 0
+  MakesPadded f (Some x) i z g = (z ≡ (item x, (None, None))) × (g ≡ f)
+  MakesPadded f None (Some i) z g = (v : Result A E) × call f i v g × (z ≡ (result_answer v, (None, None)))
+  MakesPadded f None None z g = (z ≡ (end, (None, None))) × (g ≡ f)
 
--- one answer: an item beside its index, or the one of them that there is, as of `ZipLongest`
-abbrev pub beside_index_step : {S A E : Type 0} → (S → Answered A E → S → Type 0) → S × (ℕ × ℕ) → Answered (EitherOrBoth A ℕ) E → S × (ℕ × ℕ) → Type 0
-beside_index_step steps p r q = sides_step steps index_step longest_rule (both_sides p) r (both_sides q)
+  -- The right side is the indices, which don't fail, and nothing is held.
+  abbrev pub padding : (F → ℕ → Type 0) → Join A ℕ A E F
+  padding takes = join_as (λ f. ((None, None), f)) (holding MakesPadded (λ P Q f. IsCallable call takes Q f) (λ P Q f z. P z ⊎ MayAnswer call Q f (λ i v. v ≡ Ok z)) (λ P Q f e. MayAnswer call Q f (λ i v. v ≡ Err e)) hint_greater)
 
--- nothing is held of either side
-abbrev pub BothFree : {P A U B F : Type 0} → (P × Option A) × (U × Option B) × F → Type 0
-BothFree p = (p.0.1 ≡ None) × (p.1.1 ≡ None)
+-- `PadUsing`: the source, fused, beside the indices below n.
+abbrev pub PadUsingTrace : {S F A E : Type 0} → (S → List (Answered A E) → S → Type 0) → Mut F (ℕ × Unit {0}) (Result A E) → S × (ℕ × ℕ) × F → List (Answered A E) → S × (ℕ × ℕ) × F → Type 0
+PadUsingTrace traces g p trace q = joins_all (padding (call_by_value g) (takes_by_value g)) traces IndexTrace p trace q
 
--- the contract of `ZipLongest` of the source, fused, and the indices
-abbrev pub beside_index_contract : {S A E : Type 0} → Contract S A E → Contract (Fuse S × (ℕ × ℕ)) (EitherOrBoth A ℕ) E
-beside_index_contract m = parts_as both_sides (sides_contract (fused_contract m) index_contract longest_rule hint_greater)
+-- `PadUsing`'s contract: the source, fused, beside the indices below n; its hint has the greater bounds of both.
+abbrev pub pad_using_contract : {S F A E : Type 0} → Contract S A E → Mut F (ℕ × Unit {0}) (Result A E) → Contract (Fuse S × (ℕ × ℕ) × F) A E
+pad_using_contract m g = record (join_contract (padding (call_by_value g) (takes_by_value g)) (fused_contract m) index_contract) { traces = PadUsingTrace (fused_contract m).traces g }
 
--- ---- the adapter
-
-module _ {F X E : Type 0} (g : Mut F (ℕ × Unit {0}) (Result X E)) where
-  -- The closure is called on an index alone, and what it returns is yielded then. An item is yielded as it is.
-  abbrev pub pad_call : F → EitherOrBoth X ℕ → Result X E → F → Type 0
-  pad_call f (Both x i) v h = (v ≡ Ok x) × (h ≡ f)
-  pad_call f (Left x) v h = (v ≡ Ok x) × (h ≡ f)
-  pad_call f (Right i) v h = call_by_value g f i v h
-
-  -- the closure may be called on an index alone
-  abbrev pub pad_takes : F → EitherOrBoth X ℕ → Type 0
-  pad_takes f (Both x i) = ⊤
-  pad_takes f (Left x) = ⊤
-  pad_takes f (Right i) = takes_by_value g f i
-
--- `PadUsing`: the trace of `ZipLongest` of the source and the indices below n, where an item stands as it is, and what the closure returns for an index alone stands in its place. The parts are the source, fused, beside the index of the next item and n; and the closure.
-abbrev pub PadUsingTrace : {S F A E : Type 0} → (S → List (Answered A E) → S → Type 0) → Mut F (ℕ × Unit {0}) (Result A E) → (S × (ℕ × ℕ)) × F → List (Answered A E) → (S × (ℕ × ℕ)) × F → Type 0
-PadUsingTrace traces g p trace q = passes_all (λ b made c. ZipLongestTrace traces IndexTrace (both_sides b) made (both_sides c)) (pad_call g) map_outcome p trace q
-
--- `PadUsing`'s contract: the closure may be called on an index alone, and the hint is that of `ZipLongest` of the source and the indices.
-abbrev pub pad_using_contract : {S F A E : Type 0} → Contract S A E → Mut F (ℕ × Unit {0}) (Result A E) → Contract ((Fuse S × (ℕ × ℕ)) × F) A E
-pad_using_contract m g = record (passing_contract (beside_index_contract m) (pad_call g) (λ P f. IsCallable (pad_call g) (pad_takes g) P f) map_outcome (λ p h. (beside_index_contract m).hints p.0 h)) { traces = PadUsingTrace (fused_contract m).traces g; sound = as_source (λ p. p.0) (beside_index_contract m).sound }
-
--- the source, fused
-abbrev pub pad_using_fused : {I F : Type 0} → PadUsing I F → Fuse I
-pad_using_fused s = s.it
-
--- the source
-abbrev pub pad_using_source : {I F : Type 0} → PadUsing I F → I
-pad_using_source s = fuse_source (pad_using_fused s)
-
--- whether the source's end was met
-abbrev pub pad_using_ended : {I F : Type 0} → PadUsing I F → Bool
-pad_using_ended s = fuse_ended (pad_using_fused s)
-
--- the index of the next item, and n
-abbrev pub pad_using_indices : {I F : Type 0} → PadUsing I F → ℕ × ℕ
-pad_using_indices s = (s.next, s.end)
-
--- the closure
-abbrev pub pad_using_closure : {I F : Type 0} → PadUsing I F → F
-pad_using_closure s = s.f
-
--- the source beside the indices, and the closure
-abbrev pub pad_using_parts : {I F : Type 0} → PadUsing I F → (Fuse I × (ℕ × ℕ)) × F
-pad_using_parts s = ((pad_using_fused s, pad_using_indices s), pad_using_closure s)
+-- the source, fused; the index of the next item, and n; and the closure
+abbrev pub pad_using_parts : {I F : Type 0} → PadUsing I F → Fuse I × (ℕ × ℕ) × F
+pad_using_parts s = (s.it, (s.next, s.end), s.f)
 
 -- and back
 pub pad_using_made : {I F : Type 0} → Inverse (pad_using_parts {I = I} {F = F})
-pad_using_made = record { make = λ p. record { it = p.0.0; next = p.0.1.0; end = p.0.1.1; f = p.1 }; made = λ s. refl; has = λ p. refl }
+pad_using_made = record { make = λ p. record { it = p.0; next = p.1.0; end = p.1.1; f = p.2 }; made = λ s. refl; has = λ p. refl }
+
+-- the source
+abbrev pub pad_using_source : {I F : Type 0} → PadUsing I F → I
+pad_using_source s = fuse_source (pad_using_parts s).0
+
+-- whether the source's end was met
+abbrev pub pad_using_ended : {I F : Type 0} → PadUsing I F → Bool
+pad_using_ended s = fuse_ended (pad_using_parts s).0
+
+-- the index of the next item, and n
+abbrev pub pad_using_indices : {I F : Type 0} → PadUsing I F → ℕ × ℕ
+pad_using_indices s = (pad_using_parts s).1
+
+-- the closure
+abbrev pub pad_using_closure : {I F : Type 0} → PadUsing I F → F
+pad_using_closure s = (pad_using_parts s).2
 
 -- ---- what it lists
 

@@ -1,17 +1,22 @@
 -- `ZipLongest`: the items of two sources place by place, up to the end of the longer one.
 use Rattle.std.specs.Prelude.{ℕ, max, Option, Some, None, ◌≡◌, List, [], ◌∷◌, map, Ok, Err, Result, ⊤}
 use Rattle.std.specs.declared.cmp.Ordering.TheVariants.{Equal}
+use Rattle.std.proofs.Common.{refl}
+use Rattle.fallible_iterator.specs.Contract.{Contract, Inverse}
 use Rattle.fallible_iterator.specs.Traces.{Answered}
-use Rattle.fallible_iterator.specs.Contract.{Contract}
 use Rattle.fallible_iterator.specs.Fuse.{Fuse}
-use Rattle.fallible_itertools_joins.specs.Sides.{Join, OfEachSide, Rule, fused_contract, joins_all, rule_places, sides_contract, side_parts, join_rule, taken_among}
+use Rattle.fallible_itertools_joins.specs.Sides.{Join, MakesTaken, OfEachSide, fused_contract, holding, join_as, join_contract, joins_all, taken_among}
 use Rattle.fallible_itertools_joins.specs.declared.zip_longest.EitherOrBoth.{EitherOrBoth}
 use Rattle.fallible_itertools_joins.specs.declared.zip_longest.EitherOrBoth.TheVariants.{Both, Left, Right}
 use Rattle.fallible_itertools_joins.specs.declared.zip_longest.ZipLongest.{ZipLongest}
 
--- the left with what is held of it, and the right, of which nothing is held, both fused; it has no closure
-abbrev pub zip_longest_parts : {T U A E B : Type 0} → ZipLongest T U A E → (Fuse T × Option A) × (Fuse U × Option B) × Unit {0}
-zip_longest_parts s = (side_parts s.left, (s.right, None), tt)
+-- each side, fused; and what is held of the left
+abbrev pub zip_longest_parts : {T U A E : Type 0} → ZipLongest T U A E → Fuse T × Fuse U × Option A
+zip_longest_parts s = (s.left.it, s.right, s.left.held)
+
+-- and back
+pub zip_longest_made : {T U A E : Type 0} → Inverse (zip_longest_parts {T = T} {U = U} {A = A} {E = E})
+zip_longest_made = record { make = λ p. record { left = record { it = p.0; held = p.2 }; right = p.1 }; made = λ s. refl; has = λ p. refl }
 
 -- the items of both, or the item of the one side that has one, if there is one
 abbrev pub longest : {A B : Type 0} → Option A → Option B → Option (EitherOrBoth A B)
@@ -50,18 +55,6 @@ only_right (Both x y) = None
 only_right (Left x) = None
 only_right (Right y) = Some y
 
--- both items are taken, without a call
-abbrev pub longest_join : {A B E : Type 0} → Join A B (EitherOrBoth A B) E (Unit {0}) (Unit {0})
-longest_join = record { says = λ f x y v g. v ≡ Ok tt; order = λ k. Equal; makes = λ t. t; askable = λ P Q f. ⊤; gives = OfEachSide; refuses = λ P Q f e. ⊥ }
-
--- The rule of `ZipLongest`: that of `MergeJoinBy`, where both items are taken without a call.
-abbrev pub longest_rule : {A B E : Type 0} → Rule A B (EitherOrBoth A B) E (Unit {0}) (Option (Result (Unit {0}) E))
-longest_rule = join_rule longest_join
-
--- `ZipLongest`: the trace of `MergeJoinBy`, where both items are yielded together without a call.
-abbrev pub ZipLongestTrace : {S U A B E : Type 0} → (S → List (Answered A E) → S → Type 0) → (U → List (Answered B E) → U → Type 0) → (S × Option A) × (U × Option B) × Unit {0} → List (Answered (EitherOrBoth A B) E) → (S × Option A) × (U × Option B) × Unit {0} → Type 0
-ZipLongestTrace traces others p trace q = joins_all traces others (rule_places longest_rule) p trace q
-
 -- the greater of two upper bounds, where both are known
 abbrev pub greater_bound : Option ℕ → Option ℕ → Option ℕ
 greater_bound (Some x) (Some y) = Some (max x y)
@@ -72,9 +65,17 @@ greater_bound None y = None
 abbrev pub hint_greater : ℕ × Option ℕ → ℕ × Option ℕ → ℕ × Option ℕ
 hint_greater g k = (max g.0 k.0, greater_bound g.1 k.1)
 
+-- `ZipLongest`: that of `MergeJoinBy`, where both items are always taken; so nothing is held of the right.
+abbrev pub longest_join : {A B E : Type 0} → Join A B (EitherOrBoth A B) E (Option A)
+longest_join {A = A} {B = B} = join_as {V = (Option A × Option B) × Unit {0}} (λ h. ((h, None), tt)) (holding (MakesTaken {K = Unit {0}} (λ k. Equal) (λ t. t) (λ f x y v g. v ≡ Ok tt)) (λ P Q f. ⊤) (λ P Q f z. OfEachSide P Q z) (λ P Q f e. ⊥) hint_greater)
+
+-- its trace, of two fused sides
+abbrev pub ZipLongestTrace : {S U A B E : Type 0} → (S → List (Answered A E) → S → Type 0) → (U → List (Answered B E) → U → Type 0) → S × U × Option A → List (Answered (EitherOrBoth A B) E) → S × U × Option A → Type 0
+ZipLongestTrace traces others p trace q = joins_all longest_join traces others p trace q
+
 -- `ZipLongest`'s contract: its hint has the greater bounds of both sides.
-abbrev pub zip_longest_contract : {S U A B E : Type 0} → Contract S A E → Contract U B E → Contract ((Fuse S × Option A) × (Fuse U × Option B) × Unit {0}) (EitherOrBoth A B) E
-zip_longest_contract left right = record (sides_contract (fused_contract left) (fused_contract right) longest_rule hint_greater) { traces = ZipLongestTrace (fused_contract left).traces (fused_contract right).traces }
+abbrev pub zip_longest_contract : {S U A B E : Type 0} → Contract S A E → Contract U B E → Contract (Fuse S × Fuse U × Option A) (EitherOrBoth A B) E
+zip_longest_contract left right = record (join_contract longest_join (fused_contract left) (fused_contract right)) { traces = ZipLongestTrace (fused_contract left).traces (fused_contract right).traces }
 
 -- ---- what it lists
 

@@ -13,6 +13,8 @@ use fallible_iterator::{FallibleIterator, Fuse};
 
 /// The items of many sources, each fused. Of two items the lesser goes first, and of equal ones the earlier source's. A failure of a source is yielded, and loses nothing that is buffered.
 #[derive(Drop)]
+#[derive_where(Clone; I, I::Item: Clone + Drop)]
+#[derive_where(Debug; I, I::Item)]
 pub struct KMerge<I: FallibleIterator> {
     pub(crate) tree: MergeTree<Fuse<I>>,
 }

@@ -1,10 +1,9 @@
-//! The adapters of `fallible_itertools` that join two sources or many, what they share, and their laws. A crate above names `fallible_itertools`.
+//! The adapters of `fallible_itertools` that join two sources or many, and what they share. A crate above names `fallible_itertools`.
 #![tactic(auto)]
 
 pub mod interleave;
 pub mod kmerge;
 pub mod kmerge_by;
-pub mod laws;
 pub mod merge;
 pub mod merge_by;
 pub mod merge_join_by;

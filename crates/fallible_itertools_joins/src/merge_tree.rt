@@ -6,7 +6,7 @@ ghost use Rattle.fallible_itertools_joins.specs.MergeTree.{CallableOnAny, FirstO
 use fallible_iterator::FallibleIterator;
 
 /// A tree of sources in order. A branch has two sides, and of each what it yielded and isn't yielded by the branch yet: an item, or an `Ok(None)`, after which the side isn't drawn again.
-#[derive(Drop)]
+#[derive(Clone, Debug, Drop)]
 pub enum MergeTree<I: FallibleIterator> {
     Ended,
     Source(I),

@@ -27,7 +27,7 @@ module _ {R : Type 0} (left : R → Option (List ℕ)) (stays : Bool → R → R
 
   -- one draw of the list
   abbrev TakesMade : Answered Message PgFault → Messages R → ListedMessages → Type 0
-  TakesMade answer t [] = answer ≡ end
+  TakesMade answer t [] = Refuses answer t ⊎ (answer ≡ end)
   TakesMade answer t (y ∷ l) = Refuses answer t ⊎ (IsMadeOf HasBytes y answer × Gives t l)
 
   gives_made_by_draws : (s : Messages R) (l : ListedMessages) → ((answer : Answered Message PgFault) (t : Messages R) → steps s answer t → TakesMade answer t l) → Gives s l
@@ -36,7 +36,7 @@ module _ {R : Type 0} (left : R → Option (List ℕ)) (stays : Bool → R → R
 
   -- after a fault nothing is given
   gives_no_more : (t : Messages R) → (messages_parts t).1 ≡ None → Gives t []
-  gives_no_more t is answer u h = (subst (λ (o : Option ℕ). message_step left stays no_room ((messages_parts t).0, o) answer (messages_parts u)) is h).0
+  gives_no_more t is answer u h = inr (subst (λ (o : Option ℕ). message_step left stays no_room ((messages_parts t).0, o) answer (messages_parts u)) is h).0
 
   -- what is given of fewer than n bytes
   abbrev GivesFewer : ℕ → Type 0
@@ -64,7 +64,7 @@ module _ {R : Type 0} (left : R → Option (List ℕ)) (stays : Bool → R → R
         let is : messages_of place bytes ≡ Ok (message_bytes m) ∷ messages_of (place + length (message_bytes m)) k.0 = ap (messages_of place) k.2 ∙ messages_of-message place (message_bytes m) k.0 h.1 in
         let rest = fewer t (messages_parts t).0 (place + length (message_bytes m)) k.0 (omega (arith, long, five, few)) (ap (λ (o : Option ℕ). ((messages_parts t).0, o)) h.2) k.1 (omega (arith, long, fits)) in
         subst (TakesMade (Ok (Some m)) t) (sym is) (inr (refl, rest))
-    takes_made (Ok None) h = subst (TakesMade (Ok None) t) (sym (ap (messages_of place) (none_left left stays r (messages_parts t).0 known h.1) ∙ messages_of-none place)) refl
+    takes_made (Ok None) h = subst (TakesMade (Ok None) t) (sym (ap (messages_of place) (none_left left stays r (messages_parts t).0 known h.1) ∙ messages_of-none place)) (inr refl)
     takes_made (Err fault) h = let d = h.1 in takes_fault fault d.0 d.1 h.0 d.2 d.3
 
   gives_fewer : (n : ℕ) → GivesFewer n

@@ -52,7 +52,7 @@ abbrev pub tag_text : ℕ → List ℕ
 tag_text tag = if is_copy tag then codes "COPY isn't read"
     else if is_start tag then codes "a session's start isn't read"
     else if is_call tag then codes "a function's call isn't read"
-    else codes "a message has the unknown tag " ++ decimal tag
+    else codes "a message has the unexpected tag " ++ decimal tag
 
 -- the status of a damage: 6 where the bytes were cut, 7 where they are of a kind that isn't read, else 5
 abbrev pub damage_status : Damage → ℕ

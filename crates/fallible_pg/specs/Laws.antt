@@ -2,3 +2,5 @@
 pub mod Along
 pub mod Columns
 pub mod Cells
+pub mod Messages
+pub mod Rows

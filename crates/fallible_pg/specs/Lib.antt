@@ -20,4 +20,5 @@ pub mod Sent
 pub mod Sizes
 pub mod Strings
 pub mod Text
+pub mod Traces
 pub mod Turns

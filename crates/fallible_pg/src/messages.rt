@@ -1,12 +1,14 @@
 //! The messages of a reader.
+ghost use Rattle.std.proofs.Common.{refl};
 ghost use Rattle.std.specs.Prelude.{◌≡◌, ◌^◌, ◌≤◌, ℕ, List, length, Some};
-ghost use Rattle.fallible_iterator.specs.Contract.{seen_as, unbounded_contract};
-ghost use Rattle.fallible_iterator.specs.Laws.Contract.{lawful_seen};
-ghost use Rattle.fallible_iterator.specs.Laws.BoundsRuns.{lawful_unbounded};
+ghost use Rattle.fallible_iterator.specs.Contract.{around};
+ghost use Rattle.fallible_iterator.specs.Laws.Contract.{lawful_around};
 ghost use Rattle.fallible_iterator.specs.Making.{ListsMade};
 ghost use Rattle.program_io.specs.Bytes.{NoReadFails};
+ghost use Rattle.fallible_pg.specs.Laws.Messages.{lawful_messages};
 ghost use Rattle.fallible_pg.specs.Listed.{messages_of, HasBytes, BecomesMemory};
-ghost use Rattle.fallible_pg.specs.Reading.{messages_parts, message_step, place_of};
+ghost use Rattle.fallible_pg.specs.Reading.{messages_parts, place_of};
+ghost use Rattle.fallible_pg.specs.Traces.{messages_contract};
 
 use crate::fault::PgFault;
 use crate::message::Message;
@@ -37,7 +39,7 @@ impl<R: ReadMessage> Messages<R> {
         ensures lists { (bytes : List ℕ) → NoReadFails R.stays → R.left reader ≡ Some bytes
             → length bytes ≤ 2 ^ 63
             → ListsMade HasBytes
-            (seen_as messages_parts (unbounded_contract (message_step R.left R.stays R.no_room))).steps
+            (around messages_parts (messages_contract R.left R.stays R.no_room)).steps
             BecomesMemory result (messages_of 0 bytes) }
     {
         Messages {
@@ -60,7 +62,7 @@ impl<R: ReadMessage> FallibleIterator for Messages<R> {
 
     type Error = PgFault;
 
-    ghost contract = { seen_as messages_parts (unbounded_contract (message_step R.left R.stays R.no_room)) };
+    ghost contract = { around messages_parts (messages_contract R.left R.stays R.no_room) };
 
     fn next(&mut self) -> Result<Option<Message>, PgFault> {
         let Some(place) = self.place.take() else {
@@ -85,5 +87,7 @@ impl<R: ReadMessage> FallibleIterator for Messages<R> {
         (0, None)
     }
 
-    ghost lawful = { lawful_seen messages_parts (lawful_unbounded (message_step R.left R.stays R.no_room)) };
+    ghost lawful = { lawful_around
+        (record { put = λ s p. record s { reader = p.0; place = p.1 }; has = λ s p. refl })
+        (lawful_messages R.left R.stays R.no_room) };
 }

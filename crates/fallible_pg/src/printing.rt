@@ -130,7 +130,7 @@ fn write_tag<W: WriteText>(tag: u8, errors: &mut W) -> io::Result<()>
     if is_call(tag) {
         return errors.write_text("a function's call isn't read");
     }
-    errors.write_text(format_args!("a message has the unknown tag {tag}"))
+    errors.write_text(format_args!("a message has the unexpected tag {tag}"))
 }
 
 // Writes what is told of a damage.

@@ -1,14 +1,14 @@
 //! The rows of a result.
 ghost use Rattle.std.specs.Prelude.{◌≡◌, true, false};
-ghost use Rattle.fallible_iterator.specs.Contract.{seen_as, unbounded_contract};
-ghost use Rattle.fallible_iterator.specs.Laws.Contract.{lawful_seen};
-ghost use Rattle.fallible_iterator.specs.Laws.BoundsRuns.{lawful_unbounded};
+ghost use Rattle.fallible_iterator.specs.Contract.{around};
 ghost use Rattle.fallible_pg.specs.Cells.{shows_cells, cells_of};
 ghost use Rattle.fallible_pg.specs.Columns.{AreColumns};
+ghost use Rattle.fallible_pg.specs.Laws.Rows.{lawful_rows};
 ghost use Rattle.fallible_pg.specs.Messages.{message_bytes};
 ghost use Rattle.fallible_pg.specs.Progress.{begun};
 ghost use Rattle.fallible_pg.specs.Reading.{messages_parts, place_of};
-ghost use Rattle.fallible_pg.specs.Rows.{at_end, row_in, rows_parts, rows_step};
+ghost use Rattle.fallible_pg.specs.Rows.{at_end, row_in, rows_parts};
+ghost use Rattle.fallible_pg.specs.Traces.{rows_contract};
 
 use crate::cells::Cells;
 use crate::columns::Columns;
@@ -144,7 +144,7 @@ impl<R: ReadMessage> FallibleIterator for Rows<R> {
 
     type Error = PgFault;
 
-    ghost contract = { seen_as rows_parts (unbounded_contract (rows_step R.left R.stays R.no_room)) };
+    ghost contract = { around rows_parts (rows_contract R.left R.stays R.no_room) };
 
     fn next(&mut self) -> Result<Option<Reply>, PgFault> {
         if self.ended {
@@ -186,5 +186,5 @@ impl<R: ReadMessage> FallibleIterator for Rows<R> {
         (0, None)
     }
 
-    ghost lawful = { lawful_seen rows_parts (lawful_unbounded (rows_step R.left R.stays R.no_room)) };
+    ghost lawful = { lawful_rows R.left R.stays R.no_room };
 }

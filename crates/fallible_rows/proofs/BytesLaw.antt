@@ -1,5 +1,5 @@
 -- The rows of a reader that tells its bytes.
-use Rattle.std.proofs.Common.{◌≡◌, ℕ, ◌+◌, ◌<◌, inl, inr, Bool, true, false, List, [], ◌∷◌, ◌++◌, length, take, drop, Option, Some, None, refl, sym, ap, subst, ◌∙◌, arith, append_assoc, append-nil, lit≤}
+use Rattle.std.proofs.Common.{◌≡◌, ℕ, ◌+◌, ◌<◌, inl, inr, Bool, true, false, List, [], ◌∷◌, ◌++◌, length, take, drop, Option, Some, None, refl, sym, ap, subst, ◌∙◌, arith, append_assoc, append-nil}
 use Rattle.std.specs.Prelude.{replicate}
 use Rattle.std.specs.Io.KnownBytes.{Consumes, IsAtEnd}
 use Rattle.std.proofs.Math.Seq.{get_or-append_seam}
@@ -11,13 +11,14 @@ use Rattle.fallible_iterator.specs.Traces.{Answered, Run, failure, end}
 use Rattle.fallible_iterator.proofs.Lemmas.Callers.{turns_split}
 use Rattle.fallible_rows.specs.Rows.{rows, is_newline}
 use Rattle.program_io.specs.Bytes.{GivesBytes}
-use Rattle.fallible_rows.specs.RowTraces.{row_answer, row_answers, IsOneRow, IsClosed, row_step, ReadsRows, IsPrefixOfRowAnswers, NeverFailsToRead, BeginsWith, CanGiveAll}
-use Rattle.fallible_rows.proofs.RowLemmas.{not_newline, rows-closed}
-use Rattle.fallible_rows.proofs.RowsLaw.{reads_rows_of_run, run_of_reads_rows}
+use Rattle.fallible_rows.specs.RowTraces.{row_answer, row_answers, IsOneRow, IsClosed, row_step, ReadsRows, RowsTrace, IsPrefixOfRowAnswers, NeverFailsToRead, BeginsWith, CanGiveAll}
+use Rattle.fallible_rows.specs.Laws.RowTraces.{run_of_reads_rows}
+use Rattle.fallible_rows.specs.Laws.Rows.{not_newline, rows-closed}
 use Rattle.fallible_rows.proofs.PrefixLemmas.{consumes_given, consumes_to_end}
 use Rattle.fallible_rows.specs.declared.fault.RowFault.{RowFault}
 use Rattle.fallible_rows.specs.declared.fault.RowFault.TheVariants.{Read}
 use Rattle.fallible_rows.specs.declared.rows.Ahead.{Ahead}
+use Rattle.fallible_rows.specs.declared.rows.Rows.{Rows}
 
 abbrev RowAnswers : Type 0
 RowAnswers = List (Answered ℕ RowFault)
@@ -85,10 +86,9 @@ module _ {B : Type 0} (left : B → Option (List ℕ)) (stays : Bool → B → B
     ]
   ]
 
-  pub answers_are_of_bytes : (bytes : List ℕ) (trace : RowAnswers) {p : B × Option Ahead} (q : B × Option Ahead) → BeginsWith left stays p bytes → NeverFailsToRead trace → Run (row_step left stays) p trace q → IsPrefixOfRowAnswers bytes trace
-  answers_are_of_bytes bytes trace {p = p} q b never ran =
-      let ahead : Ahead = record { left = b.limit; place = 1 } in
-      answers_rows_of_known bytes trace p.0 ahead q refl b.tells never (reads_rows_of_run left stays trace p.0 ahead q (lit≤ tt) (subst (λ (u : B × Option Ahead). Run (row_step left stays) u trace q) b.begins ran))
+  pub answers_are_of_bytes : (bytes : List ℕ) (trace : RowAnswers) {p : B × Option Ahead} (q : B × Option Ahead) → BeginsWith left stays p bytes → NeverFailsToRead trace → RowsTrace left stays p trace q → IsPrefixOfRowAnswers bytes trace
+  answers_are_of_bytes bytes trace {p = p} q b never d =
+      answers_rows_of_known bytes trace p.0 (record { left = b.limit; place = 1 }) q refl b.tells never (subst (λ (u : B × Option Ahead). RowsTrace left stays u trace q) b.begins d)
 
   -- all answers, and then ends
   run_of_all_row_answers : (bytes : List ℕ) (n : ℕ) (p : B × Option Ahead) → BeginsWith left stays p bytes → (c : CanGiveAll left stays p bytes) → Run (row_step left stays) p (row_answers 1 (rows bytes) ++ replicate (n + 1) end) (c.after, None)
@@ -112,7 +112,7 @@ module _ {B : Type 0} (left : B → Option (List ℕ)) (stays : Bool → B → B
           ended = λ _. omega arith;
         }));
       } in
-      subst (λ (u : B × Option Ahead). Run (row_step left stays) u (row_answers 1 (rows bytes) ++ replicate (n + 1) end) (c.after, None)) (sym b.begins) (run_of_reads_rows left stays (row_answers 1 (rows bytes) ++ replicate (n + 1) end) p.0 ahead (c.after, None) (lit≤ tt) reads)
+      subst (λ (u : B × Option Ahead). Run (row_step left stays) u (row_answers 1 (rows bytes) ++ replicate (n + 1) end) (c.after, None)) (sym b.begins) (run_of_reads_rows left stays (row_answers 1 (rows bytes) ++ replicate (n + 1) end) p.0 ahead (c.after, None) reads)
 
   pub run_for_each_bytes : (bytes : List ℕ) (trace : RowAnswers) (p : B × Option Ahead) → BeginsWith left stays p bytes → CanGiveAll left stays p bytes → IsPrefixOfRowAnswers bytes trace → (q : B × Option Ahead) × Run (row_step left stays) p trace q
   run_for_each_bytes bytes trace p b c h =
@@ -122,3 +122,7 @@ module _ {B : Type 0} (left : B → Option (List ℕ)) (stays : Bool → B → B
       ap (λ l. prefix ++ l) (replicate_next h.1 end) ∙ sym (append_assoc prefix (replicate h.1 end) (end ∷ [])) ∙ ap (λ l. l ++ end ∷ []) (sym (take-append-drop h.0 known)) ∙ append_assoc (take h.0 known) (drop h.0 known) (end ∷ []) in
       let parts = turns_split (row_step left stays) (take h.0 known) (drop h.0 known ++ end ∷ []) p (c.after, None) (subst (λ l. Run (row_step left stays) p l (c.after, None)) one_more (run_of_all_row_answers bytes h.1 p b c)) in
       (parts.0, subst (λ l. Run (row_step left stays) p l parts.0) (sym h.2) parts.1)
+
+-- the value of these parts
+abbrev pub rows_of : {B : Type 0} → B × Option Ahead → Rows B
+rows_of p = record { reader = p.0; ahead = p.1 }

@@ -1,18 +1,18 @@
 -- What the rows of a reader returned, where `take` and `filter` stand above them.
-use Rattle.std.proofs.Common.{◌≡◌, ℕ, ◌++◌, ◌∷◌, [], ◌⊎◌, ◌<◌, ◌≤◌, inl, inr, List, Bool, length, map, subst, Option, Some, Result, Ok, count_by, ap, ◌∙◌}
+use Rattle.std.proofs.Common.{◌≡◌, ℕ, ◌++◌, ◌∷◌, [], ◌⊎◌, ◌<◌, inl, inr, List, Bool, length, map, subst, Option, Some, Result, Ok, count_by, ap, ◌∙◌}
 use Rattle.std.specs.Fn.{Mut}
 use Rattle.std.specs.Borrow.{Bor}
 use Rattle.std.proofs.lemmas.List.Sums.{length-filter}
 use Rattle.fallible_iterator.specs.Traces.{Answered, Run, item, end}
-use Rattle.fallible_iterator.specs.Contract.{Contract, seen_as, parts_as, unbounded_contract}
+use Rattle.fallible_iterator.specs.Contract.{Contract, parts_as}
 use Rattle.fallible_iterator.specs.Closures.{call_by_reference}
 use Rattle.fallible_iterator.specs.Lists.{Acts}
 use Rattle.fallible_iterator.specs.Cutting.Take.{take_contract, take_parts}
 use Rattle.fallible_iterator.specs.Filtering.Filter.{filter_contract, filter_parts}
 use Rattle.fallible_iterator.proofs.Lemmas.Callers.{filtered_run, taken_run, run_at_view}
-use Rattle.fallible_rows.specs.RowTraces.{rows_parts, row_step, ReadsRows}
+use Rattle.fallible_rows.specs.RowTraces.{rows_parts, row_step, ReadsRows, rows_contract}
+use Rattle.fallible_rows.specs.Laws.RowTraces.{reads_rows_of_run}
 use Rattle.fallible_rows.proofs.ReportLemmas.{is_above_100}
-use Rattle.fallible_rows.proofs.RowsLaw.{reads_rows_of_run}
 use Rattle.fallible_iterator.specs.Take.{Take}
 use Rattle.fallible_iterator.specs.Filter.{Filter}
 use Rattle.fallible_rows.specs.declared.fault.RowFault.{RowFault}
@@ -20,7 +20,7 @@ use Rattle.fallible_rows.specs.declared.rows.Ahead.{Ahead}
 use Rattle.fallible_rows.specs.declared.rows.Rows.{Rows}
 
 abbrev row_contract : {B : Type 0} → (B → Option (List ℕ)) → (Bool → B → B → Type 0) → Contract (Rows B) ℕ RowFault
-row_contract left stays = seen_as rows_parts (unbounded_contract (row_step left stays))
+row_contract left stays = parts_as rows_parts (rows_contract left stays)
 
 module _ {B : Type 0} (left : B → Option (List ℕ)) (stays : Bool → B → B → Type 0) (r : B) (a : Ahead) where
   -- the rows were read up to the last answer, before which fewer than n came; or n rows were, and the end came without a draw
@@ -33,9 +33,9 @@ module _ {B : Type 0} (left : B → Option (List ℕ)) (stays : Bool → B → B
     pub reads : ReadsAtMost n items last p
     pub count_is : count ≡ count_by is_above_100 items
 
-module _ {B : Type 0} {left : B → Option (List ℕ)} {stays : Bool → B → B → Type 0} {r : B} {a : Ahead} {begin : Rows B} (begins : rows_parts begin ≡ (r, Some a)) (placed : a.place ≤ 4294967295) where
+module _ {B : Type 0} {left : B → Option (List ℕ)} {stays : Bool → B → B → Type 0} {r : B} {a : Ahead} {begin : Rows B} (begins : rows_parts begin ≡ (r, Some a)) where
   reads_rows : (trace : List (Answered ℕ RowFault)) (t : Rows B) → Run (row_contract left stays).steps begin trace t → ReadsRows left stays r a trace (rows_parts t)
-  reads_rows trace t ran = reads_rows_of_run left stays trace r a (rows_parts t) placed (subst (λ (p : B × Option Ahead). Run (row_step left stays) p trace (rows_parts t)) begins (run_at_view rows_parts (row_step left stays) trace begin t ran))
+  reads_rows trace t ran = reads_rows_of_run left stays trace r a (rows_parts t) (subst (λ (p : B × Option Ahead). Run (row_step left stays) p trace (rows_parts t)) begins (run_at_view rows_parts (row_step left stays) trace begin t ran))
 
   pub chain_reads : {F : Type 0} {g : Mut F (Bor ℕ × Unit {0}) (Result Bool RowFault)} {s : Filter (Take (Rows B)) F} {first : Take (Rows B)} {f : F} {n : ℕ} {last : Answered ℕ RowFault} (t : Filter (Take (Rows B)) F) (xs : List ℕ) → Acts (call_by_reference g) f (λ x. Ok (is_above_100 x)) → filter_parts s ≡ (first, f) → take_parts first ≡ (begin, n)
       → Run (parts_as filter_parts (filter_contract (parts_as take_parts (take_contract (row_contract left stays))) g)).steps s (map item xs ++ last ∷ []) t → ChainReads left stays r a n (length xs) last (rows_parts t.it.it)

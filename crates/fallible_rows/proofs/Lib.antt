@@ -6,5 +6,4 @@ mod ListsLaw
 pub mod PrefixLemmas
 pub mod ReportLemmas
 pub mod RowLemmas
-pub mod RowsLaw
 pub mod TraceLemmas

@@ -6,13 +6,13 @@ use Rattle.std.specs.Option.{ok_or}
 use Rattle.std.proofs.KnownBytes.{Consumes-trans}
 use Rattle.std.proofs.lemmas.List.{length-append}
 use Rattle.fallible_iterator.specs.Traces.{Answered, end, failure}
-use Rattle.fallible_iterator.specs.Contract.{unbounded_contract, seen_as}
+use Rattle.fallible_iterator.specs.Contract.{parts_as}
 use Rattle.fallible_iterator.specs.Lists.{AlwaysGives, Lists, result_answer}
 use Rattle.fallible_iterator.proofs.Lemmas.Lists.Passing.{lists_seen}
 use Rattle.program_io.specs.Bytes.{NoReadFails}
 use Rattle.fallible_rows.specs.Rows.{rows, row_number}
-use Rattle.fallible_rows.specs.RowTraces.{rows_parts, begun, told_place, answer_of_number, row_result, row_results, DrawsRow, row_step, row_step_where_read, ListsWhereRead}
-use Rattle.fallible_rows.proofs.RowLemmas.{rows-none, rows-row, rows-one}
+use Rattle.fallible_rows.specs.RowTraces.{rows_parts, begun, told_place, answer_of_number, row_result, row_results, DrawsRow, row_step, row_step_where_read, ListsWhereRead, rows_contract}
+use Rattle.fallible_rows.specs.Laws.Rows.{rows-none, rows-row, rows-one}
 use Rattle.fallible_rows.proofs.PrefixLemmas.{consumes_given, consumes_to_end}
 use Rattle.fallible_rows.specs.declared.fault.RowFault.{RowFault}
 use Rattle.fallible_rows.specs.declared.fault.RowFault.TheVariants.{Row, Read}
@@ -106,7 +106,7 @@ module _ {B : Type 0} (left : B → Option (List ℕ)) (stays : Bool → B → B
   always_gives_forget_state s [] i = λ r t w. i r t (w, tt)
   always_gives_forget_state s (y ∷ l) i = λ r t w. let d = i r t (w, tt) in (d.0, always_gives_forget_state t l d.1)
 
-  pub lists_rows : NoReadFails stays → {s : Rows B} (reader : B) (limit : ℕ) {bytes : List ℕ} → rows_parts s ≡ begun reader limit → left reader ≡ Some bytes → length bytes < limit → Lists (seen_as rows_parts (unbounded_contract (row_step left stays))).steps s (row_results 1 (rows bytes))
+  pub lists_rows : NoReadFails stays → {s : Rows B} (reader : B) (limit : ℕ) {bytes : List ℕ} → rows_parts s ≡ begun reader limit → left reader ≡ Some bytes → length bytes < limit → Lists (parts_as rows_parts (rows_contract left stays)).steps s (row_results 1 (rows bytes))
   lists_rows never {s = s} reader limit {bytes = bytes} is tells within = lists_seen rows_parts (row_step left stays) s is refl (always_gives_forget_state (begun reader limit) (row_results 1 (rows bytes)) (gives_rows left stays (λ _. ⊤) (λ r q failed _. never r q failed) (begun reader limit) reader limit bytes refl tells within))
 
   pub lists_rows_where_read : {s : Rows B} (reader : B) (limit : ℕ) {bytes : List ℕ} → rows_parts s ≡ begun reader limit → left reader ≡ Some bytes → length bytes < limit → ListsWhereRead left stays s (row_results 1 (rows bytes))

@@ -13,7 +13,7 @@ use Rattle.fallible_rows.specs.Rows.{rows, row_number}
 use Rattle.fallible_rows.specs.Report.{row_limit, first_rows, is_refused, is_above, unless_refused, tally, report, line_of_count}
 use Rattle.fallible_rows.specs.RowTraces.{told_place, answer_of_number, row_answer, row_answers, IsClosed}
 use Rattle.fallible_rows.specs.Run.{byte_limit, AreNumbers, but_last, ReadsPrefix}
-use Rattle.fallible_rows.proofs.RowLemmas.{rows-closed, rows-none}
+use Rattle.fallible_rows.specs.Laws.Rows.{rows-closed, rows-none}
 use Rattle.fallible_rows.specs.declared.fault.RowFault.{RowFault}
 use Rattle.fallible_rows.specs.declared.fault.RowFault.TheVariants.{Row}
 

@@ -1,20 +1,18 @@
 -- Lemmas on what draws from the rows of a reader answer.
-use Rattle.std.proofs.Common.{Bool, ◌↔◌, ◌≡◌, ◌≢◌, ℕ, ◌+◌, List, [], ◌∷◌, ◌++◌, length, take, Option, Some, None, refl, sym, ap, subst, ◌∙◌, arith, append_assoc, ◌⊎◌, inl, inr}
+use Rattle.std.proofs.Common.{Bool, ◌≡◌, ◌≢◌, ℕ, ◌+◌, List, [], ◌∷◌, ◌++◌, length, take, Option, Some, None, refl, sym, ap, subst, ◌∙◌, arith, append_assoc, ◌⊎◌, inl, inr}
 use Rattle.std.proofs.lemmas.List.{take_at, length_push}
 use Rattle.std.proofs.lemmas.List.Elements.{All-nil, All-cons, All-append}
-use Rattle.fallible_iterator.specs.Traces.{Answered, Run, failure, end}
+use Rattle.fallible_iterator.specs.Traces.{Answered, failure, end}
 use Rattle.fallible_iterator.proofs.Lemmas.Callers.{turns_split}
-use Rattle.fallible_iterator.specs.Laws.LawForm.{traces_are_of_parts}
 use Rattle.fallible_rows.specs.Digits.{TellsOf, HasNumberAhead, ClosesAs, ReadsRow}
 use Rattle.program_io.specs.Bytes.{GivesByte, GivesBytes}
-use Rattle.fallible_rows.specs.RowTraces.{rows_parts, told_place, row_answer, IsOneRow, DrawsRow}
-use Rattle.fallible_rows.proofs.RowLemmas.{not_newline}
+use Rattle.fallible_rows.specs.RowTraces.{told_place, row_answer, IsOneRow, DrawsRow}
+use Rattle.fallible_rows.specs.Laws.Rows.{not_newline}
 use Rattle.fallible_rows.specs.declared.fault.RowFault.{RowFault}
 use Rattle.fallible_rows.specs.declared.fault.RowFault.TheVariants.{Read}
 use Rattle.fallible_rows.specs.declared.digits.Digits.{Digits}
 use Rattle.fallible_rows.specs.declared.digits.Digits.TheVariants.{Number}
 use Rattle.fallible_rows.specs.declared.rows.Ahead.{Ahead}
-use Rattle.fallible_rows.specs.declared.rows.Rows.{Rows}
 use Rattle.fallible_rows.specs.declared.rows.Close.{Close}
 use Rattle.fallible_rows.specs.declared.rows.Close.TheVariants.{Newline, End, Failure}
 
@@ -36,14 +34,6 @@ reads_row_ahead left stays {r = r} {q = q} {held = held} {count = count} h given
       tells = (h.number, h.long);
       closed = (subst (GivesByte left stays parts.0 10) parts.2.2 parts.2.1, let row = h.long in omega (arith, row, at));
     }
-
--- the value of these parts
-abbrev pub rows_of : {B : Type 0} → B × Option Ahead → Rows B
-rows_of p = record { reader = p.0; ahead = p.1 }
-
--- a run of the struct is one of its parts, and the other way round
-pub run_rows_seen : {B : Type 0} (step : B × Option Ahead → Answered ℕ RowFault → B × Option Ahead → Type 0) (trace : List (Answered ℕ RowFault)) (s t : Rows B) → Run (λ u r v. step (rows_parts u) r (rows_parts v)) s trace t ↔ Run step (rows_parts s) trace (rows_parts t)
-run_rows_seen step trace s t = traces_are_of_parts rows_parts rows_of (λ x. refl) (λ p. refl) step (λ p l q. Run step p l q) (λ p l q. ((λ h. h), (λ h. h))) s trace t
 
 -- ---- one draw
 

@@ -1,7 +1,9 @@
 -- What draws from the rows of a reader answer, and what they read.
-use Rattle.std.specs.Prelude.{Bool, ◌≡◌, ◌≢◌, ℕ, ◌+◌, ◌<◌, ◌≤◌, ◌⊎◌, min, List, [], ◌∷◌, ◌++◌, length, take, replicate, All, Option, Some, None, Result, ⊤}
+use Rattle.std.proofs.Common.{refl}
+use Rattle.std.specs.Prelude.{Bool, ◌≡◌, ◌≢◌, ℕ, ◌+◌, ◌<◌, ◌⊎◌, min, List, [], ◌∷◌, ◌++◌, length, take, replicate, All, Option, Some, None, Result}
 use Rattle.std.specs.Option.{ok_or}
 use Rattle.fallible_iterator.specs.Traces.{Answered, item, failure, end}
+use Rattle.fallible_iterator.specs.Contract.{Contract, Inverse, unbounded_contract}
 use Rattle.fallible_iterator.specs.Lists.{Lists}
 use Rattle.fallible_rows.specs.Rows.{rows, row_number}
 use Rattle.program_io.specs.Bytes.{GivesByte, GivesBytes, GivesEnd, FailsToRead}
@@ -14,20 +16,24 @@ use Rattle.fallible_rows.specs.declared.rows.Rows.{Rows}
 abbrev pub rows_parts : {B : Type 0} → Rows B → B × Option Ahead
 rows_parts s = (s.reader, s.ahead)
 
+-- and back
+pub rows_made : {B : Type 0} → Inverse (rows_parts {B = B})
+rows_made = record { make = λ p. record { reader = p.0; ahead = p.1 }; made = λ s. refl; has = λ p. refl }
+
 -- at the start: no byte was read, and the first row has place 1
 abbrev pub begun : {B : Type 0} → B → ℕ → B × Option Ahead
 begun reader limit = (reader, Some (record { left = limit; place = 1 }))
-
--- the place is one that a `u32` can hold, as that of each value is
-abbrev pub IsPlaced : {B : Type 0} → B × Option Ahead → Type 0
-IsPlaced (r, Some a) = a.place ≤ 4294967295
-IsPlaced (r, None) = ⊤
 
 -- ---- answers
 
 -- the place that is told of a place: the smaller of it and `u32::MAX`
 abbrev pub told_place : ℕ → ℕ
 told_place place = min place 4294967295
+
+-- the place after these rows, of which the first has this place
+abbrev pub place_after : ℕ → List (List ℕ) → ℕ
+place_after place [] = place
+place_after place (row ∷ rest) = place_after (told_place (place + 1)) rest
 
 -- the number as an item, or where there is none the failure that tells the place
 abbrev pub answer_of_number : ℕ → Option ℕ → Answered ℕ RowFault
@@ -119,7 +125,7 @@ module _ {B : Type 0} (left : B → Option (List ℕ)) (stays : Bool → B → B
     pub after : Ahead
     pub none_unclosed : unclosed ≡ []
     pub limit : after.left + length closed ≡ a.left
-    pub place : after.place ≡ told_place (a.place + length (rows closed))
+    pub place : after.place ≡ place_after a.place (rows closed)
     pub is_left : p ≡ (last, Some after)
     pub answers : trace ≡ row_answers a.place (rows closed)
 
@@ -153,6 +159,10 @@ module _ {B : Type 0} (left : B → Option (List ℕ)) (stays : Bool → B → B
   abbrev pub RowsTrace : B × Option Ahead → List (Answered ℕ RowFault) → B × Option Ahead → Type 0
   RowsTrace (r, Some a) trace p = ReadsRows r a trace p
   RowsTrace (r, None) trace p = ((ends : ℕ) × (trace ≡ replicate ends end)) × (p ≡ (r, None))
+
+  -- The contract of the rows of a reader: they have a bound only where their runs do.
+  abbrev pub rows_contract : Contract (B × Option Ahead) ℕ RowFault
+  rows_contract = record (unbounded_contract row_step) { traces = RowsTrace }
 
 -- ---- the rows of known bytes
 

@@ -1,12 +1,12 @@
 //! Rows of a reader, as a fallible iterator.
 ghost use Rattle.std.specs.Prelude.{◌≡◌, ◌-◌, ◌^◌, ◌<◌, ℕ, List, length, Some};
-ghost use Rattle.fallible_iterator.specs.Contract.{AtMost, unbounded_contract, seen_as};
-ghost use Rattle.fallible_iterator.specs.Laws.Contract.{lawful_seen};
-ghost use Rattle.fallible_iterator.specs.Laws.BoundsRuns.{lawful_unbounded};
+ghost use Rattle.fallible_iterator.specs.Contract.{AtMost, parts_as};
+ghost use Rattle.fallible_iterator.specs.Laws.Contract.{lawful_parts};
 ghost use Rattle.fallible_iterator.specs.Lists.{Lists};
 ghost use Rattle.program_io.specs.Bytes.{NoReadFails};
 ghost use Rattle.fallible_rows.specs.Rows.{rows};
-ghost use Rattle.fallible_rows.specs.RowTraces.{rows_parts, begun, row_step, row_results, ListsWhereRead};
+ghost use Rattle.fallible_rows.specs.RowTraces.{rows_parts, rows_made, rows_contract, begun, row_results, ListsWhereRead};
+ghost use Rattle.fallible_rows.specs.Laws.RowTraces.{lawful_rows};
 ghost use Rattle.fallible_rows.specs.Digits.{ReadsRow};
 
 use crate::digits::{Digits, number_ahead};
@@ -43,13 +43,13 @@ impl<B: ReadByte> Rows<B> {
     /// The rows of `reader`, of which at most `u64::MAX` bytes are read. It reads nothing.
     pub fn new(reader: B) -> Rows<B>
         ensures parts { rows_parts result ≡ begun reader (2 ^ 64 - 1) }
-        ensures finite { (seen_as rows_parts
-            (unbounded_contract (row_step B.left B.stays))).is_finite result }
-        ensures fits { AtMost (seen_as rows_parts
-            (unbounded_contract (row_step B.left B.stays))) result (2 ^ 64 - 1) }
+        ensures finite { (parts_as rows_parts
+            (rows_contract B.left B.stays)).is_finite result }
+        ensures fits { AtMost (parts_as rows_parts
+            (rows_contract B.left B.stays)) result (2 ^ 64 - 1) }
         ensures lists { (bytes : List ℕ) → NoReadFails B.stays → B.left reader ≡ Some bytes
             → length bytes < 2 ^ 64 - 1
-            → Lists (seen_as rows_parts (unbounded_contract (row_step B.left B.stays))).steps
+            → Lists (parts_as rows_parts (rows_contract B.left B.stays)).steps
             result (row_results 1 (rows bytes)) }
         ensures lists_where_read { (bytes : List ℕ) → B.left reader ≡ Some bytes
             → length bytes < 2 ^ 64 - 1
@@ -61,13 +61,13 @@ impl<B: ReadByte> Rows<B> {
     /// The rows of `reader`, of which at most `limit` bytes are read. It reads nothing.
     pub fn with_limit(reader: B, limit: u64) -> Rows<B>
         ensures parts { rows_parts result ≡ begun reader limit }
-        ensures finite { (seen_as rows_parts
-            (unbounded_contract (row_step B.left B.stays))).is_finite result }
-        ensures fits { AtMost (seen_as rows_parts
-            (unbounded_contract (row_step B.left B.stays))) result limit }
+        ensures finite { (parts_as rows_parts
+            (rows_contract B.left B.stays)).is_finite result }
+        ensures fits { AtMost (parts_as rows_parts
+            (rows_contract B.left B.stays)) result limit }
         ensures lists { (bytes : List ℕ) → NoReadFails B.stays → B.left reader ≡ Some bytes
             → length bytes < limit
-            → Lists (seen_as rows_parts (unbounded_contract (row_step B.left B.stays))).steps
+            → Lists (parts_as rows_parts (rows_contract B.left B.stays)).steps
             result (row_results 1 (rows bytes)) }
         ensures lists_where_read { (bytes : List ℕ) → B.left reader ≡ Some bytes
             → length bytes < limit
@@ -136,7 +136,7 @@ impl<B: ReadByte> FallibleIterator for Rows<B> {
 
     type Error = RowFault;
 
-    ghost contract = { seen_as rows_parts (unbounded_contract (row_step B.left B.stays)) };
+    ghost contract = { parts_as rows_parts (rows_contract B.left B.stays) };
 
     /// Reads one row and what ends it, and nothing once it is exhausted.
     fn next(&mut self) -> Result<Option<u64>, RowFault> {
@@ -168,5 +168,5 @@ impl<B: ReadByte> FallibleIterator for Rows<B> {
         (0, None)
     }
 
-    ghost lawful = { lawful_seen rows_parts (lawful_unbounded (row_step B.left B.stays)) };
+    ghost lawful = { lawful_parts rows_made (lawful_rows B.left B.stays) };
 }

@@ -1,3 +1,4 @@
--- What the clauses of `src/` cite.
+-- What the clauses of `src/` cite, and in `Laws` what follows from it: lemmas that the ghost members cite.
+pub mod Laws
 pub mod Report
 pub mod Tables

@@ -1,9 +1,13 @@
 -- Records of bytes, and what is made of them.
-use Rattle.std.specs.Prelude.{◌≡◌, ℕ, zero, suc, ◌+◌, ◌/◌, ◌%◌, ◌^◌, ◌<◌, ◌≤◌, List, [], ◌∷◌, length, take, drop, Bool, nat_le, Some, None, Result, Ok, Err, if◌then◌else◌}
+use Rattle.std.specs.Prelude.{◌≡◌, ℕ, zero, suc, ◌+◌, ◌*◌, ◌/◌, ◌%◌, ◌^◌, ◌<◌, ◌≤◌, List, [], ◌∷◌, length, take, drop, Bool, nat_le, Some, None, Result, Ok, Err, if◌then◌else◌}
 use Rattle.std.specs.Int.{w32, from_le_bytes}
+use Rattle.std.proofs.Common.{refl}
 use Rattle.fallible_iterator.specs.Traces.{Answered}
+use Rattle.fallible_iterator.specs.Contract.{Contract, Replaceable, counted_contract}
 use Rattle.fallible_iterator.specs.Lists.{folded, mapped, numbered, failures_mapped}
+use Rattle.fallible_iterator.specs.Showing.{first_answers}
 use Rattle.fallible_table.specs.declared.table.Record.{Record}
+use Rattle.fallible_table.specs.declared.table.Records.{Records}
 use Rattle.fallible_table.specs.declared.table.CutShort.{CutShort}
 use Rattle.fallible_table.specs.declared.table.TableFault.{TableFault}
 use Rattle.fallible_table.specs.declared.table.TableFault.TheVariants.{Bad, Cut}
@@ -32,6 +36,22 @@ abbrev pub DrawsRecord : List ℕ → Answered Record CutShort → List ℕ → 
 DrawsRecord bytes (Ok (Some r)) rest = (8 ≤ length bytes) × (r ≡ record_of bytes) × (rest ≡ drop 8 bytes)
 DrawsRecord bytes (Ok None) rest = (bytes ≡ []) × (rest ≡ [])
 DrawsRecord bytes (Err e) rest = (0 < length bytes) × (length bytes < 8) × (rest ≡ [])
+
+-- The trace is the first of the records of bytes, and ends after the last of them. Each draw takes eight bytes, or all where fewer are left.
+abbrev pub TakesRecords : List ℕ → List (Answered Record CutShort) → List ℕ → Type 0
+TakesRecords bytes trace rest = (trace ≡ first_answers (length trace) (records bytes)) × (rest ≡ drop (8 * length trace) bytes)
+
+-- The contract of bytes that yield their records: at most as many items are left as bytes.
+abbrev pub table_contract : Contract (List ℕ) Record CutShort
+table_contract = record (counted_contract DrawsRecord (λ bytes. length bytes)) { traces = TakesRecords }
+
+-- the bytes that are left
+abbrev pub bytes_left : Records → List ℕ
+bytes_left s = s.bytes.now
+
+-- any others can stand there
+pub bytes_put : Replaceable bytes_left
+bytes_put = record { put = λ s bytes. record s { bytes = record s.bytes { now = bytes } }; has = λ s bytes. refl }
 
 -- whether the first number is not above the second
 abbrev pub is_low_to_high : Record → Bool

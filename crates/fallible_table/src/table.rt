@@ -1,9 +1,11 @@
 //! A binary table: records of two numbers, little endian.
 ghost use Rattle.std.specs.Prelude.{◌≡◌, ℕ, List, ◌+◌, ◌*◌, ◌%◌, ◌^◌, ◌<◌, ◌++◌, Ok, nat_lt, length};
 ghost use Rattle.std.proofs.Common.{rules};
-ghost use Rattle.fallible_iterator.specs.Contract.{counted_contract};
+ghost use Rattle.fallible_iterator.specs.Contract.{around, counted_contract};
+ghost use Rattle.fallible_iterator.specs.Laws.Contract.{lawful_around, lawful_with_traces};
 ghost use Rattle.fallible_iterator.specs.Lists.{Lists, folded, position_in, filtered};
-ghost use Rattle.fallible_table.specs.Tables.{DrawsRecord, record_of, records, is_low_to_high, checked, with_record, plus, placed_after, place_of, totals_of};
+ghost use Rattle.fallible_table.specs.Tables.{bytes_left, bytes_put, table_contract, DrawsRecord, TakesRecords, record_of, records, is_low_to_high, checked, with_record, plus, placed_after, place_of, totals_of};
+ghost use Rattle.fallible_table.specs.Laws.Tables.{records_traced};
 
 use fallible_iterator::FallibleIterator;
 
@@ -52,8 +54,7 @@ impl FallibleIterator for Records<'_> {
 
     type Error = CutShort;
 
-    ghost contract = { counted_contract (λ s r t. DrawsRecord s.bytes.now r t.bytes.now)
-        (λ s. length s.bytes.now) };
+    ghost contract = { around bytes_left table_contract };
 
     fn next(&mut self) -> Result<Option<Record>, CutShort> {
         if let Some((record, rest)) = self.bytes.split_first_chunk::<8>() {
@@ -69,7 +70,9 @@ impl FallibleIterator for Records<'_> {
         (0, None)
     }
 
-    ghost lawful = { Prim.search rules };
+    ghost lawful = { lawful_around bytes_put (lawful_with_traces
+        {m = counted_contract DrawsRecord (λ bytes. length bytes)}
+        TakesRecords records_traced (Prim.search rules)) };
 }
 
 /// The records of a table. Creating them draws nothing.

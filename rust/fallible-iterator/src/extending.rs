@@ -1,6 +1,7 @@
 //! What an adapter, a search or a consumer of one's own is made of: what becomes of an item or of a failure, the turns of folds and searches, what is read off their results, the folds of the source, and the hints' arithmetic.
 #[cfg(feature = "alloc")]
 pub use crate::batch::{alone, pushed};
+pub use crate::fallible_contract::collecting::CollectTurn;
 pub use crate::fallible_contract::comparing::{ReadEq, Reading, ordered};
 pub use crate::fallible_contract::failing::{Fail, failed};
 pub use crate::fallible_contract::folds::{Beside, CountTurn, FirstTurn, NthTurn, answer_within};

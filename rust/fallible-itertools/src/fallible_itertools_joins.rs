@@ -1,4 +1,4 @@
-//! The adapters of `fallible_itertools` that join two sources or many, what they share, and their laws. A crate above names `fallible_itertools`.
+//! The adapters of `fallible_itertools` that join two sources or many, and what they share. A crate above names `fallible_itertools`.
 
 pub mod interleave;
 #[cfg(feature = "alloc")]

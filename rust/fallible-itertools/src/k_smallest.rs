@@ -44,7 +44,7 @@ fn is_beyond<A: Ord>(items: &[A], k: usize, item: &A) -> bool {
     !item.cmp(&items[k - 1]).is_lt()
 }
 
-// Keeps the item if it may be one of the k least. Fewer than twice k are kept. Of k or more the first k are in order, and the others came later.
+// Keeps the item if it may be one of the k least. At most twice k are kept. Of k or more the first k are in order, and the others came later.
 fn keep_least<A: Ord>(items: &mut Vec<A>, k: usize, item: A) -> Result<(), AllocError> {
     if !is_beyond(items, k, &item) {
         items.push(item);
@@ -60,7 +60,7 @@ pub struct SmallestTurn {
 }
 
 impl<A: Ord> Turn<Vec<A>, A, AllocError> for SmallestTurn {
-    /// Keeps the item if it is one of the k least so far.
+    /// Keeps the item if it is one of the k least so far, and at most twice k.
     #[inline(always)]
     fn turn(&self, state: &mut Vec<A>, item: A) -> ControlFlow<AllocError, ()> {
         match keep_least(state, self.k, item) {

@@ -39,7 +39,6 @@ mod fold_while;
 #[cfg(feature = "std")]
 mod group_map;
 mod is_sorted;
-mod is_sorted_by;
 #[cfg(feature = "alloc")]
 mod join;
 #[cfg(feature = "alloc")]
@@ -58,7 +57,6 @@ mod sorted_unstable;
 #[cfg(feature = "alloc")]
 mod tail;
 mod traits;
-mod until_failure;
 #[cfg(doc)]
 pub mod words;
 

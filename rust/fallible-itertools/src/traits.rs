@@ -8,15 +8,15 @@ use crate::base::drive::whole;
 use crate::base::gathering::gathered;
 use crate::base::{CollectTurn, Extended};
 use crate::base::{
-    FindTest, FindTurn, ForEachTurn, PositionTurn, ReadEq, Reading, answer_or, answer_or_none,
-    found, ordered,
+    CollectTurn, FindTest, FindTurn, ForEachTurn, PositionTurn, ReadEq, Reading, answer_or,
+    answer_or_none, found, ordered,
 };
 use crate::checked_sum::{CheckedTotal, ProductTurn, SumTurn, total_or_none};
 use crate::cmp_by::{CmpTurn, EqTurn, compare_by};
 use crate::converting::converted;
 #[cfg(feature = "std")]
 use crate::counts::Tally;
-use crate::equal::{AllEqualTurn, ContainsTurn, UnequalTurn, first_or_both};
+use crate::equal::{ContainsTurn, EqualTurn, first_or_both, whether_stopped};
 use crate::exactly_one::NotOne;
 #[cfg(feature = "alloc")]
 use crate::fallible_itertools_adapters::{ChunkBy, Chunks};
@@ -30,13 +30,12 @@ use crate::fallible_itertools_adapters::{Duplicates, Unique, UniqueBy};
 use crate::fallible_itertools_joins::{
     Interleave, Merge, MergeBy, MergeJoinBy, PadUsing, ZipEq, ZipLongest,
 };
-use crate::find_or_last::{FindFirstTurn, FindLastTurn, or_kept};
+use crate::find_or_last::{FindFirstTurn, FindLastTurn};
 use crate::find_position::FindPositionTurn;
 use crate::fold_while::{FoldWhile, FoldWhileTurn, while_or_stop};
 #[cfg(feature = "std")]
 use crate::group_map::GroupMap;
-use crate::is_sorted::{IsSortedByKeyTurn, IsSortedTurn};
-use crate::is_sorted_by::IsSortedByTurn;
+use crate::is_sorted::{IsSortedByKeyTurn, IsSortedByTurn, IsSortedTurn};
 #[cfg(feature = "alloc")]
 use crate::join::JoinTurn;
 #[cfg(feature = "std")]
@@ -46,7 +45,6 @@ use crate::minmax_by::{find_both_by, find_both_by_key};
 use crate::parted::Parted;
 use crate::partition_map::Either;
 use crate::position_best::{first_is_less, place_alone};
-use crate::until_failure::PushTurn;
 #[cfg(feature = "alloc")]
 use crate::{k_smallest, sorted, sorted_unstable, tail};
 #[cfg(feature = "alloc")]
@@ -578,8 +576,9 @@ pub trait FallibleItertools: FallibleIterator + Sized {
     /// ```text
     /// requires can_next { Self.contract.can_next self.old }
     /// requires finite { Self.contract.is_finite self.old }
-    /// ensures searched { search.SearchDrains (TestCall (λ x. Self.Item.eq x wanted.now))
-    ///     search.any_pick Self.contract.steps false self.old tt result self.new tt }
+    /// ensures searched { Consumes (calls_nothing {F = Unit {0}}) (at_once (wanted_flow Self.Item.eq wanted.now))
+    ///     Self.contract.steps (λ answer _. whether_stopped true answer) self.old tt tt result self.new
+    ///     tt }
     /// ensures value { OverList Self.contract.steps self.old
     ///     (λ l. result ≡ contained Self.Item.eq wanted.now l) }
     /// ensures rest { OverList Self.contract.steps self.old
@@ -592,7 +591,7 @@ pub trait FallibleItertools: FallibleIterator + Sized {
     where
         Self::Item: PartialEq,
     {
-        answer_or(self.by_turns(&mut (), &ContainsTurn { wanted }), false)
+        whether_stopped(self.by_turns(&mut ((), ()), &ContainsTurn { wanted }), true)
     }
 
     /// Returns whether the first item equals each later one; true if there is no item.
@@ -616,8 +615,8 @@ pub trait FallibleItertools: FallibleIterator + Sized {
     /// ```text
     /// requires can_next { Self.contract.can_next self.old }
     /// requires finite { Self.contract.is_finite self.old }
-    /// ensures searched { (first : Option Self.Item) × search.SearchDrains (FirstCall Self.Item.eq)
-    ///     search.all_pick Self.contract.steps true self.old None result self.new first }
+    /// ensures searched { Consumes (calls_nothing {F = Unit {0}}) (at_once (equal_flow Self.Item.eq)) Self.contract.steps
+    ///     (λ answer _. whether_stopped false answer) self.old None tt result self.new tt }
     /// ensures value { OverList Self.contract.steps self.old
     ///     (λ l. result ≡ equal_to_first Self.Item.eq l) }
     /// ensures rest { OverList Self.contract.steps self.old
@@ -630,7 +629,7 @@ pub trait FallibleItertools: FallibleIterator + Sized {
     where
         Self::Item: PartialEq,
     {
-        answer_or(self.by_turns(&mut None, &AllEqualTurn), true)
+        whether_stopped(self.by_turns(&mut (None, ()), &EqualTurn), false)
     }
 
     /// Returns whether no two items are equal; true if there is no item.
@@ -701,9 +700,8 @@ pub trait FallibleItertools: FallibleIterator + Sized {
     /// ```text
     /// requires can_next { Self.contract.can_next self.old }
     /// requires finite { Self.contract.is_finite self.old }
-    /// ensures searched { (first : Option Self.Item) × (found : Result (Option Self.Item) Self.Error)
-    ///     × search.SearchDrains (FirstCall Self.Item.eq) unequal_pick Self.contract.steps None
-    ///     self.old None found self.new first × (result ≡ value_or_both first found) }
+    /// ensures searched { Consumes (calls_nothing {F = Unit {0}}) (at_once (equal_flow Self.Item.eq)) Self.contract.steps
+    ///     first_or_both self.old None tt result self.new tt }
     /// ensures value { OverList Self.contract.steps self.old
     ///     (λ l. result ≡ equal_value Self.Item.eq l) }
     /// ensures rest_unequal { OverList Self.contract.steps self.old
@@ -721,9 +719,10 @@ pub trait FallibleItertools: FallibleIterator + Sized {
     where
         Self::Item: PartialEq,
     {
-        let mut first = None;
-        let found = answer_or_none(self.by_turns(&mut first, &UnequalTurn));
-        first_or_both(first, found)
+        let mut state = (None, ());
+        let answer = self.by_turns(&mut state, &EqualTurn);
+        let (first, _) = state;
+        first_or_both(answer, first)
     }
 
     /// Returns the first item on which the predicate returns true, beside how many items come before it; `Ok(None)` if there is none.
@@ -793,10 +792,10 @@ pub trait FallibleItertools: FallibleIterator + Sized {
     /// ```text
     /// requires can_next { Self.contract.can_next self }
     /// requires finite { Self.contract.is_finite self }
-    /// requires callable { search.CallableInSearch (call_by_reference F.FnMut) search.find_pick
-    ///     Self.contract.steps (takes_by_reference F.FnMut) self f }
-    /// ensures found { (left : Self) × (g : F)
-    ///     × FoundOrLast (call_by_reference F.FnMut) Self.contract.steps self f result left g }
+    /// requires callable { CallableStepping (call_by_reference F.FnMut) (by_call (find_flow last_kept))
+    ///     Self.contract.steps (takes_by_reference F.FnMut) self None f }
+    /// ensures found { ConsumedBy (call_by_reference F.FnMut) (by_call (find_flow last_kept))
+    ///     Self.contract.steps stop_or_kept self None f result }
     /// ensures value { OverListWith (list.Acts (call_by_reference F.FnMut) f) Self.contract.steps self
     ///     (λ h l. result ≡ found_or_last h l) }
     /// ```
@@ -808,7 +807,7 @@ pub trait FallibleItertools: FallibleIterator + Sized {
         let mut state = (None, f);
         let answer = self.by_turns(&mut state, &FindLastTurn);
         let (last, _) = state;
-        or_kept(answer_or_none(answer), last)
+        answer_or(answer, last)
     }
 
     /// Returns the first item on which the predicate returns true, or the first item of all if there is none; `Ok(None)` if there is no item.
@@ -836,10 +835,10 @@ pub trait FallibleItertools: FallibleIterator + Sized {
     /// ```text
     /// requires can_next { Self.contract.can_next self }
     /// requires finite { Self.contract.is_finite self }
-    /// requires callable { search.CallableInSearch (call_by_reference F.FnMut) search.find_pick
-    ///     Self.contract.steps (takes_by_reference F.FnMut) self f }
-    /// ensures found { (left : Self) × (g : F)
-    ///     × FoundOrFirst (call_by_reference F.FnMut) Self.contract.steps self f result left g }
+    /// requires callable { CallableStepping (call_by_reference F.FnMut) (by_call (find_flow first_kept))
+    ///     Self.contract.steps (takes_by_reference F.FnMut) self None f }
+    /// ensures found { ConsumedBy (call_by_reference F.FnMut) (by_call (find_flow first_kept))
+    ///     Self.contract.steps stop_or_kept self None f result }
     /// ensures value { OverListWith (list.Acts (call_by_reference F.FnMut) f) Self.contract.steps self
     ///     (λ h l. result ≡ found_or_first h l) }
     /// ```
@@ -851,7 +850,7 @@ pub trait FallibleItertools: FallibleIterator + Sized {
         let mut state = (None, f);
         let answer = self.by_turns(&mut state, &FindFirstTurn);
         let (first, _) = state;
-        or_kept(answer_or_none(answer), first)
+        answer_or(answer, first)
     }
 
     /// Returns the sum of the items, 0 for none. If it overflows at one of them, it returns `Ok(None)`.
@@ -1066,11 +1065,10 @@ pub trait FallibleItertools: FallibleIterator + Sized {
     /// ```text
     /// requires can_next { Self.contract.can_next self }
     /// requires finite { Self.contract.is_finite self }
-    /// requires callable { search.CallableInSearch (OrderCall K.partial_cmp (call_by_value F.FnMut))
-    ///     search.all_pick Self.contract.steps (λ p x. takes_by_value F.FnMut p.1 x) self (None, f) }
-    /// ensures sorted { (left : Self) × (q : Option K × F)
-    ///     × search.SearchDrains (OrderCall K.partial_cmp (call_by_value F.FnMut)) search.all_pick
-    ///     Self.contract.steps true self (None, f) result left q }
+    /// requires callable { CallableStepping (call_by_value F.FnMut) (by_call (key_flow K.partial_cmp))
+    ///     Self.contract.steps (takes_by_value F.FnMut) self None f }
+    /// ensures sorted { ConsumedBy (call_by_value F.FnMut) (by_call (key_flow K.partial_cmp))
+    ///     Self.contract.steps (stop_or true) self None f result }
     /// ensures value { (order : K → K → Option Ordering) → order ≡ K.partial_cmp
     ///     → OverListWith (list.Acts (call_by_value F.FnMut) f) Self.contract.steps self
     ///     (λ h l. result ≡ in_order_by_key order h l) }
@@ -1106,11 +1104,10 @@ pub trait FallibleItertools: FallibleIterator + Sized {
     /// ```text
     /// requires can_next { Self.contract.can_next self }
     /// requires finite { Self.contract.is_finite self }
-    /// requires callable { search.CallableInSearch (PairCall (call_at_two F.FnMut))
-    ///     search.all_pick Self.contract.steps (takes_pair (takes_at_two F.FnMut)) self (None, f) }
-    /// ensures sorted { (left : Self) × (q : Option Self.Item × F)
-    ///     × search.SearchDrains (PairCall (call_at_two F.FnMut)) search.all_pick
-    ///     Self.contract.steps true self (None, f) result left q }
+    /// requires callable { CallableStepping (same_call F.FnMut) pair_step Self.contract.steps
+    ///     (same_takes F.FnMut) self None f }
+    /// ensures sorted { ConsumedBy (same_call F.FnMut) pair_step Self.contract.steps (stop_or true) self
+    ///     None f result }
     /// ensures value { OverListWith (list.ActsWith (call_at_two F.FnMut) f) Self.contract.steps self
     ///     (λ h l. result ≡ in_order_by h l) }
     /// ```
@@ -1146,9 +1143,8 @@ pub trait FallibleItertools: FallibleIterator + Sized {
     /// ```text
     /// requires can_next { Self.contract.can_next self }
     /// requires finite { Self.contract.is_finite self }
-    /// ensures sorted { (left : Self) × (q : Option Self.Item × Unit {0})
-    ///     × search.SearchDrains (OrderCall Self.Item.partial_cmp ItselfCall) search.all_pick
-    ///     Self.contract.steps true self (None, tt) result left q }
+    /// ensures sorted { ConsumedBy (calls_nothing {F = Unit {0}}) (at_once (item_flow Self.Item.partial_cmp)) Self.contract.steps
+    ///     (stop_or true) self None tt result }
     /// ensures value { (order : Self.Item → Self.Item → Option Ordering)
     ///     → order ≡ Self.Item.partial_cmp
     ///     → OverList Self.contract.steps self (λ l. result ≡ in_order order l) }
@@ -1439,7 +1435,7 @@ pub trait FallibleItertools: FallibleIterator + Sized {
     /// As it is proved, in [these words](crate::words):
     ///
     /// ```text
-    /// ensures begun { BothBegun self I.into_gives other (merge_parts result) }
+    /// ensures begun { BothBegun self I.into_gives other ((None, None), tt) (merge_parts result) }
     /// ensures bounded { (a b k : ℕ) → Self.contract.bound self a
     ///     → I.IntoFallibleIter.contract.bound
     ///     (sides.right_source (merge_parts result)) b → a + b ≤ k
@@ -1488,7 +1484,8 @@ pub trait FallibleItertools: FallibleIterator + Sized {
     ///     → IsCallable (sides.call_on_two (call_at_two F.FnMut))
     ///     (λ g z. takes_at_two F.FnMut g z.0 z.1) (λ z. Self.contract.may_give self z.0
     ///     × I.IntoFallibleIter.contract.may_give right z.1) f }
-    /// ensures begun { BothBegun self I.into_gives other (merge_by.merge_by_parts result) }
+    /// ensures begun { BothBegun self I.into_gives other ((None, None), f)
+    ///     (merge_by.merge_by_parts result) }
     /// ensures closure { sides.asked_closure (merge_by.merge_by_parts result) ≡ f }
     /// ensures bounded { (a b k : ℕ) → Self.contract.bound self a
     ///     → I.IntoFallibleIter.contract.bound
@@ -1545,7 +1542,8 @@ pub trait FallibleItertools: FallibleIterator + Sized {
     ///     → IsCallable (sides.call_on_two (join_by.call_at_both F.FnMut))
     ///     (λ g z. join_by.takes_at_both F.FnMut g z.0 z.1) (λ z. Self.contract.may_give self z.0
     ///     × I.IntoFallibleIter.contract.may_give right z.1) f }
-    /// ensures begun { BothBegun self I.into_gives other (join_by.merge_join_by_parts result) }
+    /// ensures begun { BothBegun self I.into_gives other ((None, None), f)
+    ///     (join_by.merge_join_by_parts result) }
     /// ensures closure { sides.asked_closure (join_by.merge_join_by_parts result) ≡ f }
     /// ensures bounded { (a b k : ℕ) → Self.contract.bound self a
     ///     → I.IntoFallibleIter.contract.bound
@@ -1597,11 +1595,11 @@ pub trait FallibleItertools: FallibleIterator + Sized {
     /// As it is proved, in [these words](crate::words):
     ///
     /// ```text
-    /// ensures begun { BothBegun self I.into_gives other
-    ///     (zip_longest.zip_longest_parts {B = I.Item} result) }
+    /// ensures begun { BothBegun self I.into_gives other None
+    ///     (zip_longest.zip_longest_parts result) }
     /// ensures bounded { (a b k : ℕ) → Self.contract.bound self a
     ///     → I.IntoFallibleIter.contract.bound
-    ///     (sides.right_source (zip_longest.zip_longest_parts {B = I.Item} result)) b → a + b ≤ k
+    ///     (sides.right_source (zip_longest.zip_longest_parts result)) b → a + b ≤ k
     ///     → AtMost (seen_as zip_longest.zip_longest_parts
     ///     (zip_longest.zip_longest_contract Self.contract I.IntoFallibleIter.contract)) result k }
     /// ensures lists { OverBoth Self.contract.steps self I.into_gives other
@@ -1644,11 +1642,12 @@ pub trait FallibleItertools: FallibleIterator + Sized {
     ///
     /// ```text
     /// requires { IsCallable (call_of_none F.FnMut) (λ g _. F.pre g) (λ _. ⊤) unequal }
-    /// ensures begun { BothBegun self I.into_gives other (zip_eq.zip_eq_parts {B = I.Item} result) }
-    /// ensures closure { sides.asked_closure (zip_eq.zip_eq_parts {B = I.Item} result) ≡ unequal }
+    /// ensures begun { BothBegun self I.into_gives other (None, unequal)
+    ///     (zip_eq.zip_eq_parts result) }
+    /// ensures closure { sides.asked_closure (zip_eq.zip_eq_parts result) ≡ unequal }
     /// ensures bounded { (a b k : ℕ) → Self.contract.bound self a
     ///     → I.IntoFallibleIter.contract.bound
-    ///     (sides.right_source (zip_eq.zip_eq_parts {B = I.Item} result)) b → a + b ≤ k
+    ///     (sides.right_source (zip_eq.zip_eq_parts result)) b → a + b ≤ k
     ///     → AtMost (seen_as zip_eq.zip_eq_parts (zip_eq.zip_eq_contract Self.contract
     ///     I.IntoFallibleIter.contract F.FnMut)) result k }
     /// ensures lists { (e : Self.Error) → list.Acts (call_of_none F.FnMut) unequal (λ _. e)
@@ -1742,9 +1741,9 @@ pub trait FallibleItertools: FallibleIterator + Sized {
     /// ensures ended { pad_using.pad_using_ended result ≡ false }
     /// ensures indices { pad_using.pad_using_indices result ≡ (0, n) }
     /// ensures closure { pad_using.pad_using_closure result ≡ f }
-    /// ensures callable { IsCallable (pad_using.pad_call F.FnMut) (pad_using.pad_takes F.FnMut)
-    ///     ((pad_using.beside_index_contract Self.contract).may_give
-    ///     (pad_using.pad_using_parts result).0) f }
+    /// ensures callable { IsCallable (call_by_value F.FnMut) (takes_by_value F.FnMut)
+    ///     ((pad_using.index_contract {E = Self.Error}).may_give
+    ///     (pad_using.pad_using_indices result)) f }
     /// ensures bounded { (a k : ℕ) → Self.contract.bound self a → a + n ≤ k
     ///     → AtMost (seen_as pad_using.pad_using_parts
     ///     (pad_using.pad_using_contract Self.contract F.FnMut)) result k }
@@ -2240,7 +2239,7 @@ pub trait FallibleItertools: FallibleIterator + Sized {
         C: Default + Extend<Self::Item>,
     {
         let mut made = Extended(C::default());
-        let failure = whole(self.by_turns(&mut made, &PushTurn)).err();
+        let failure = whole(self.by_turns(&mut made, &CollectTurn)).err();
         (made.0, failure)
     }
 
@@ -2295,6 +2294,8 @@ pub trait FallibleItertools: FallibleIterator + Sized {
     ///
     /// It draws up to `Ok(None)` or the first failure, of this iterator or of a closure. It fails with that failure. On each item the first closure is called, through a reference, and then the second, on the value so far of the item's key. It consumes the iterator.
     ///
+    /// Rattle copies values. In Rust `init` is cloned once for each key, and at most once more; of a type that drops nothing, as a number, the value so far is cloned at each item.
+    ///
     /// Precondition, which is not checked: the iterator is finite.
     ///
     /// ```
@@ -2344,9 +2345,9 @@ pub trait FallibleItertools: FallibleIterator + Sized {
         G: FnMut(B, Self::Item) -> Result<B, Self::Error>,
     {
         let mut it = Keyed { it: self, f: key };
-        let mut state = (HashMap::new(), f);
+        let mut state = (HashMap::new(), f, None);
         let answer = it.by_turns(&mut state, &crate::fold_by_key::FoldByKeyTurn { init });
-        let (folds, _) = state;
+        let (folds, _, _) = state;
         match answer {
             Ok(None) => Ok(folds),
             Ok(Some(e)) | Err(e) => Err(e),

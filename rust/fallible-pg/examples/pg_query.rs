@@ -285,7 +285,7 @@ mod tests {
             (
                 b"D\0\0\0\x04".to_vec(),
                 5,
-                "byte 0: a message has the unknown tag 68\n".into(),
+                "byte 0: a message has the unexpected tag 68\n".into(),
             ),
             (
                 NOTHING_MORE.to_vec(),

@@ -35,7 +35,7 @@ impl fmt::Display for Damage {
             Damage::Tag(tag) if is_copy(tag) => f.write_str("COPY isn't read"),
             Damage::Tag(tag) if is_start(tag) => f.write_str("a session's start isn't read"),
             Damage::Tag(tag) if is_call(tag) => f.write_str("a function's call isn't read"),
-            Damage::Tag(tag) => write!(f, "a message has the unknown tag {tag}"),
+            Damage::Tag(tag) => write!(f, "a message has the unexpected tag {tag}"),
             Damage::Row => f.write_str("the cells of a row don't fill it"),
             Damage::Columns => f.write_str("the columns of a description don't fill it"),
         }

@@ -61,7 +61,7 @@ fn each_program_prints_or_tells_why() {
             rows,
             "1\n\n",
             b"x\0\0\0\x04",
-            "byte 0: a message has the unknown tag 120\n",
+            "byte 0: a message has the unexpected tag 120\n",
         ),
     ] {
         assert_eq!(run(program, &[], input), found(0, output, ""));

@@ -10,6 +10,7 @@ use Rattle.fallible_contract.specs.declared.answers.Side.{Side}
 use Rattle.fallible_contract.specs.declared.answers.Side.TheVariants.{Front, Back}
 
 module _ {S A E : Type 0} {m : Contract S A E} (l : Lawful m) where
+  -- Law: No run from a value that `next` may be called on has more items than a bound of it. Failures and `Ok(None)` aren't counted.
   pub items_in_at_most : (trace : List (Answered A E)) (s t : S) (n : ℕ) → m.can_next s → m.bound s n → Run m.steps s trace t → items_in trace ≤ n
   items_in_at_most [] s t n c b ran = omega arith
   items_in_at_most (Ok (Some x) ∷ rest) s t n c b ran = let g = l.kept_by_draw s (item x) ran.0 c ran.1 in let k = g.answer.1 n b in let h = items_in_at_most rest ran.0 t k.0 g.can_next k.1 ran.2 in omega (arith, k.2, h)
@@ -46,6 +47,7 @@ module _ {S A E : Type 0} {m : Contract S A E} {e : Ends S A E} (l : LawfulEnds 
   bound_left_after_draw_at_end Front s t r n c step b = bound_left_after_draw l.front s r t n c step b
   bound_left_after_draw_at_end Back s t r n c step b = bound_left_after_draw l.back s r t n c step b
 
+  -- Law: No draws from both ends of a value that may be drawn from both, in any order, have more items than a bound of it.
   pub items_in_drawn_at_most : (drawn : List (Side × Answered A E)) (s t : S) (n : ℕ) → e.can_next s → m.bound s n → RunAtEnds m.steps e.steps s drawn t → items_in (answers_drawn drawn) ≤ n
   items_in_drawn_at_most [] s t n c b mixed = omega arith
   items_in_drawn_at_most ((side, r) ∷ drawn) s t n c b mixed =

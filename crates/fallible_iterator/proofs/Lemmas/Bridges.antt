@@ -61,6 +61,7 @@ module _ {V S A E : Type 0} (view : V → S) (make : S → V) (made : (s : V) �
       let at : h.0 ≡ view (make h.0) = sym (has h.0) in
       (make h.0, subst (λ (z : S). steps (view s) (Ok o) z) at h.1, folds_to_of_run_of_answers rest (make h.0) t (subst (λ (z : S). Run steps z (map (λ q. Ok q) rest) (view t)) at h.2))
 
+  -- Law: Position by position, what std's `next` of an `Unwrap` returns are its source's items and `Ok(None)`s: none is a failure.
   pub folds_to_iff_run_of_answers : (s : V) (given : List (Option A)) (t : V) → FoldsTo ok_answer_step s given t ↔ Run steps (view s) (map (λ o. Ok o) given) (view t)
   folds_to_iff_run_of_answers s given t = (run_of_folds_to_answers given s t, folds_to_of_run_of_answers given s t)
 

@@ -1,17 +1,27 @@
 -- Draws from both ends.
+use Rattle.std.specs.Borrow.{MutBor}
 use Rattle.std.specs.Prelude.{◌≡◌, ◌↔◌, ℕ, Bool, Option, Result, None, Ok, Err, List, [], ◌∷◌, ◌++◌, reverse}
 use Rattle.std.proofs.Common.{refl, sym, ◌∙◌, ap, subst}
 use Rattle.std.proofs.lemmas.List.{reverse-reverse, reverse-append}
 use Rattle.fallible_contract.specs.Traces.{Answered, Run, end}
+use Rattle.fallible_contract.specs.Contract.{Contract, parts_as}
+use Rattle.fallible_contract.specs.Ends.{Ends, ends_of, ends_parts_as, from_back, from_front}
 use Rattle.fallible_contract.specs.Folds.{NthDrains}
+use Rattle.fallible_contract.specs.LawForm.{TracesAre}
+use Rattle.fallible_contract.specs.Laws.LawForm.{traces_are_of_parts}
 use Rattle.fallible_contract.specs.Searching.{SearchDrains, find_pick}
 use Rattle.fallible_contract.specs.Lists.{AlwaysGives, Lists, Acts, result_answer, rest_nth, rest_true}
 use Rattle.fallible_contract.specs.BothEnds.{TakesFirst, RunAtEnds, ListsBothEnds}
-use Rattle.fallible_contract.proofs.Lemmas.BothEnds.{takes_first_front, takes_first_back}
+use Rattle.fallible_contract.proofs.Lemmas.BothEnds.{lists_both_ends_at_view, lists_both_ends_swapped, lists_both_ends_through_view, takes_first_front, takes_first_back}
 use Rattle.fallible_contract.proofs.Lemmas.Lists.Rest.{lists_rest_nth, lists_rest_find}
+use Rattle.fallible_core.specs.Borrowed.{borrowed, boxed}
+use Rattle.fallible_core.specs.Ends.Rev.{rev_contract, rev_parts}
 use Rattle.fallible_core.proofs.Lemmas.Joining.Chain.{item_not_end}
+use Rattle.std.specs.declared.alloc.Global.{Global}
+use Rattle.std.specs.declared.boxed.Box.{Box}
 use Rattle.fallible_contract.specs.declared.answers.Side.{Side}
 use Rattle.fallible_contract.specs.declared.answers.Side.TheVariants.{Front, Back}
+use Rattle.fallible_core.specs.declared.ends.rev.Rev.{Rev}
 
 -- ---- of values that are seen by their parts, of which each names one value
 
@@ -33,8 +43,60 @@ module _ {V P A E : Type 0} (parts : V → P) (make : P → V) (made : (s : V) �
   run_at_ends_of_parts ((Back, r) ∷ rest) s t h = let e = has h.0 in (make h.0, subst (λ (p : P). back (parts s) r p) (sym e) h.1, run_at_ends_of_parts rest (make h.0) t (subst (λ (p : P). RunAtEnds front back p rest (parts t)) (sym e) h.2))
 
   -- they are draws of the parts
-  pub run_at_ends_same_on_parts : (s : V) (drawn : List (Side × Answered A E)) (t : V) → RunAtEnds seen_front seen_back s drawn t ↔ RunAtEnds front back (parts s) drawn (parts t)
+  run_at_ends_same_on_parts : (s : V) (drawn : List (Side × Answered A E)) (t : V) → RunAtEnds seen_front seen_back s drawn t ↔ RunAtEnds front back (parts s) drawn (parts t)
   run_at_ends_same_on_parts s drawn t = (run_at_ends_to_parts drawn s t, run_at_ends_of_parts drawn s t)
+
+-- ---- what a `Rev`, a reference and a box list, their source lists
+
+module _ {S A E : Type 0} (m : Contract S A E) (e : Ends S A E) where
+  abbrev rev_front : Contract (Rev S) A E
+  rev_front = parts_as rev_parts (rev_contract m e)
+
+  abbrev rev_ends : Ends (Rev S) A E
+  rev_ends = ends_parts_as rev_parts (ends_of (from_front m e))
+
+  -- Law: What a `Rev` lists from both ends, its source lists reversed.
+  pub source_lists_reversed : (s : Rev S) (l : List (Result A E)) → ListsBothEnds rev_front.steps rev_ends.steps s l → ListsBothEnds m.steps e.steps (rev_parts s) (reverse l)
+  source_lists_reversed s l i = lists_both_ends_swapped (lists_both_ends_at_view rev_parts e.steps m.steps (λ u r q step. (record u { it = q }, refl, step)) (λ u r q step. (record u { it = q }, refl, step)) i)
+
+  -- Law: What a `&mut I` lists from both ends, the value lists that it points to.
+  pub value_lists_as_reference : (s : MutBor S) (l : List (Result A E)) → ListsBothEnds (borrowed m).steps (ends_of (borrowed (from_back m e))).steps s l → ListsBothEnds m.steps e.steps s.now l
+  value_lists_as_reference s l i = lists_both_ends_at_view (λ u. u.now) _ _ (λ u r q step. (record u { now = q }, refl, (step, refl))) (λ u r q step. (record u { now = q }, refl, (step, refl))) i
+
+  -- Law: What a `Box<I>` lists from both ends, the value lists that it holds.
+  pub value_lists_as_box : (s : Box S Global) (l : List (Result A E)) → ListsBothEnds (boxed m).steps (ends_of (boxed (from_back m e))).steps s l → ListsBothEnds m.steps e.steps s.value l
+  value_lists_as_box s l i = lists_both_ends_at_view (λ u. u.value) _ _ (λ u r q step. (record u { value = q }, refl, step)) (λ u r q step. (record u { value = q }, refl, step)) i
+
+-- ---- a `Rev` of a `Rev`
+
+module _ {S A E : Type 0} (m : Contract S A E) (e : Ends S A E) where
+  abbrev rev_rev_front : Contract (Rev (Rev S)) A E
+  rev_rev_front = rev_front (rev_front m e) (rev_ends m e)
+
+  abbrev rev_rev_ends : Ends (Rev (Rev S)) A E
+  rev_rev_ends = rev_ends (rev_front m e) (rev_ends m e)
+
+  abbrev rev_rev_source : Rev (Rev S) → S
+  rev_rev_source s = rev_parts (rev_parts s)
+
+  -- Law: A `Rev` of a `Rev` is its source: a trace of it from either end is one of its source from that end, and draws from both are draws of its source.
+  pub rev_rev_traces : TracesAre rev_rev_source rev_rev_front.steps (Run m.steps)
+  rev_rev_traces = traces_are_of_parts rev_rev_source (λ p. record { it = record { it = p } }) (λ s. refl) (λ p. refl) _ _ (λ p trace q. ((λ ran. ran), (λ ran. ran)))
+
+  -- from the back
+  pub rev_rev_traces_back : TracesAre rev_rev_source rev_rev_ends.steps (Run e.steps)
+  rev_rev_traces_back = traces_are_of_parts rev_rev_source (λ p. record { it = record { it = p } }) (λ s. refl) (λ p. refl) _ _ (λ p trace q. ((λ ran. ran), (λ ran. ran)))
+
+  -- draws from both ends, in any order
+  pub rev_rev_draws : (s : Rev (Rev S)) (drawn : List (Side × Answered A E)) (t : Rev (Rev S)) → RunAtEnds rev_rev_front.steps rev_rev_ends.steps s drawn t ↔ RunAtEnds m.steps e.steps (rev_rev_source s) drawn (rev_rev_source t)
+  rev_rev_draws = run_at_ends_same_on_parts rev_rev_source (λ p. record { it = record { it = p } }) (λ s. refl) (λ p. refl) _ _
+
+  -- Law: A `Rev` of a `Rev` lists from both ends just what its source lists.
+  pub rev_rev_lists : (s : Rev (Rev S)) (l : List (Result A E)) → ListsBothEnds rev_rev_front.steps rev_rev_ends.steps s l ↔ ListsBothEnds m.steps e.steps (rev_rev_source s) l
+  rev_rev_lists s l = (
+    (λ i. lists_both_ends_at_view rev_rev_source _ _ (λ u r q step. (record { it = record { it = q } }, refl, step)) (λ u r q step. (record { it = record { it = q } }, refl, step)) i),
+    (λ i. lists_both_ends_through_view rev_rev_source i),
+  )
 
 -- ---- what one draw takes
 

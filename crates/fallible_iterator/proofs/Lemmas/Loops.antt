@@ -1,8 +1,10 @@
--- Loops by hand over draws: what their invariants say, and what each turn and each exit makes of it.
+-- Loops by hand over draws: what their invariants say, and what each turn and each exit makes of it; and what each turn of a fold keeps.
 use Rattle.std.specs.Prelude.{◌≡◌, ℕ, ◌≤◌, List, [], ◌∷◌, Result, Some, None, Ok, Err}
-use Rattle.std.proofs.Common.{sym, ap, ◌∙◌}
+use Rattle.std.specs.List.{FoldsTo}
+use Rattle.std.proofs.Common.{sym, ap, subst, ◌∙◌}
 use Rattle.fallible_contract.specs.Traces.{Answered}
 use Rattle.fallible_contract.specs.Contract.{Contract}
+use Rattle.fallible_contract.specs.Folds.{HoldsAtEachTurn}
 use Rattle.fallible_contract.specs.Lists.{AlwaysGives, Lists}
 
 -- It may be drawn from, and some bound of it is at most the number that is counted down.
@@ -51,3 +53,13 @@ module _ {S A E B R : Type 0} where
     -- at the end
     pub answer_at_end : {v : R} → AnswersFromHere steps answers s0 b0 s b → steps s r t → r ≡ Ok None → v ≡ answers b [] → (whole : List (Result A E)) → Lists steps s0 whole → v ≡ answers b0 whole
     answer_at_end {v = v} here drawn is same whole i = let k = here.at whole i in answer_of_end steps answers s t b r drawn v k.0 is same k.1.runs ∙ sym k.2
+
+-- ---- what each turn of a fold keeps
+
+kept_by_turns : {A C : Type 0} {goes : C → A → C → Type 0} (kept : C → Type 0) → ((c : C) (x : A) (d : C) → goes c x d → kept c → kept d) → (items : List A) (c d : C) → FoldsTo goes c items d → kept c → kept d
+kept_by_turns kept keeps [] c d went is = subst kept went is
+kept_by_turns kept keeps (x ∷ items) c d went is = kept_by_turns kept keeps items went.0 d went.2 (keeps c x went.0 went.1 is)
+
+-- If each turn keeps what is known of the state, and a turn may be taken where that is known, each may be taken.
+pub holds_at_each_turn_of_kept : {S A E C : Type 0} {steps : S → Answered A E → S → Type 0} {goes : C → A → C → Type 0} {may : C → A → Type 0} (kept : C → Type 0) → ((c : C) (x : A) (d : C) → goes c x d → kept c → kept d) → ((c : C) (x : A) → kept c → may c x) → {s : S} {c : C} → kept c → HoldsAtEachTurn steps goes may s c
+holds_at_each_turn_of_kept kept keeps takes {c = c} is = record { at = λ items t u d x ran went step. takes d x (kept_by_turns kept keeps items c d went is) }

@@ -1,4 +1,4 @@
--- What `map` lists whose closure makes values up to an allocation failure, what a `map` after it lists, and what consumers make of such a list.
+-- What `map` lists whose closure makes values up to an allocation failure, and what consumers make of such a list.
 use Rattle.std.specs.Prelude.{◌≡◌, ℕ, ◌+◌, Some, None, Result, Ok, Err, List, [], ◌∷◌, ◌++◌, length, map, ◌⊎◌}
 use Rattle.std.specs.List.{FoldsTo}
 use Rattle.std.specs.Fn.{Mut}
@@ -13,7 +13,7 @@ use Rattle.fallible_contract.specs.Lists.{AlwaysGives, Converts, Lists, before, 
 use Rattle.fallible_contract.proofs.Lemmas.Lists.Passing.{end_of_nil, answer_is_failure_first_in_list}
 use Rattle.fallible_core.specs.OneToOne.Map.{map_outcome, map_parts, mapped}
 use Rattle.fallible_core.proofs.Lemmas.OneToOne.Map.{map_outcome_is_never_end}
-use Rattle.fallible_iterator.specs.Making.{AnswersRefusal, AtRefusal, CollectedMade, EachMade, GivesMade, IsMadeOf, IsRefusal, IsToldOrRefused, ListsMade, Makes, MakesOf, MakesWith, RefusesNext, SameOrRefused}
+use Rattle.fallible_iterator.specs.Making.{AnswersRefusal, AtRefusal, CollectedMade, EachMade, GivesMade, IsMadeOf, IsRefusal, IsToldOrRefused, ListsMade, Makes, MakesWith, RefusesNext, SameOrRefused}
 use Rattle.std.specs.declared.alloc.AllocError.{AllocError}
 use Rattle.fallible_contract.specs.declared.collecting.Fault.{Fault}
 use Rattle.fallible_contract.specs.declared.collecting.Fault.TheVariants.{Source, Memory}
@@ -72,7 +72,7 @@ module _ {S F X V B E : Type 0} (steps : S → Answered X E → S → Type 0) (c
 
   gives_made_items_mapped : (l : List (Result X E)) (s : S) → AlwaysGives steps s l → GivesMadeItems s f (mapped h l)
   unfolding mapped
-  gives_made_items_mapped [] s a = λ r t w. end_of_nil a (passes_of_pass_trace w)
+  gives_made_items_mapped [] s a = λ r t w. inr (end_of_nil a (passes_of_pass_trace w))
   gives_made_items_mapped (Err d ∷ l) s a = λ r t w. let k = answer_is_failure_first_in_list d l a (passes_of_pass_trace w) in inr (k.0, subst (λ (g : F). GivesMadeItems t.0 g (mapped h l)) (sym k.1) (gives_made_items_mapped l t.0 k.2))
   gives_made_items_mapped (Ok x ∷ l) s a = λ r t w. at_refusal_or_made_after_item l x (mapped h l) (λ u b. gives_made_items_mapped l u b) r t.0 t.1 (after_item_of_one_drawn x l s r t.0 t.1 a (passes_of_pass_trace w))
 
@@ -91,9 +91,13 @@ module _ {W P V B E : Type 0} (made : V → B → Type 0) (from : AllocError →
   at_refusal_or_made_seen y l r t later (inl q) = inl (at_refusal_through_view r t q)
   at_refusal_or_made_seen y l r t later (inr k) = inr (k.0, later k.1)
 
+  at_refusal_or_end_seen : (r : Answered B E) (t : W) → AtRefusal made steps from r (view t) ⊎ (r ≡ end) → AtRefusal made SeenSteps from r t ⊎ (r ≡ end)
+  at_refusal_or_end_seen r t (inl q) = inl (at_refusal_through_view r t q)
+  at_refusal_or_end_seen r t (inr is) = inr is
+
   -- a value whose answers are those of its parts gives what they give
   pub gives_made_seen : (l : List (Result V E)) (s : W) → GivesMade made steps from (view s) l → GivesMade made SeenSteps from s l
-  gives_made_seen [] s a = λ r t w. a r (view t) w
+  gives_made_seen [] s a = λ r t w. at_refusal_or_end_seen r t (a r (view t) w)
   gives_made_seen (y ∷ l) s a = λ r t w. at_refusal_or_made_seen y l r t (λ b. gives_made_seen l t b) (a r (view t) w)
 
   -- a value whose answers are those of its parts lists what they list
@@ -133,78 +137,6 @@ module _ {S X B E : Type 0} (made : X → B → Type 0) (steps : S → Answered 
   item_told z y t (inl (inr (x, w, m, is, next))) = inl (x, subst (made x) (let same : w ≡ y = (let e = is in cc) in same) m, next)
   item_told (Ok x) y t (inr k) = inr (x, refl, k.0, k.1)
   item_told (Err d) y t (inr k) = absurd (let e = k.0 in cc)
-
--- ---- what `map` lists over what lists made values
-
-module _ {S F X Y B C E : Type 0} (steps : S → Answered B E → S → Type 0) (call : F → B → Result C E → F → Type 0) (of : X → B → Type 0) (made : Y → C → Type 0) (from : AllocError → E → Type 0) (f : F) (h : X → Y) (makes : MakesOf of made from call f h) where
-  abbrev MapSteps : S × F → Answered C E → S × F → Type 0
-  MapSteps = passing_step steps call map_outcome
-
-  abbrev MapDrawsOne : S → Answered C E → S → F → Type 0
-  MapDrawsOne s r t g = Passes steps call map_outcome s f (r ∷ []) t g
-
-  no_item_refuses : {P : Type 0} (x : B) → AnswersRefusal from (Ok (Some x)) → P
-  no_item_refuses x r = absurd (let e = r.1 in cc)
-
-  map_answers_refusal_where_source_refuses : (s : S) (r : Answered C E) (t : S) (g : F) → RefusesNext steps from s → MapDrawsOne s r t g → AnswersRefusal from r
-  map_answers_refusal_where_source_refuses s _ t g a (end_passes step d) = absurd (let e = (a (Ok None) _ step).1 in cc)
-  map_answers_refusal_where_source_refuses s _ t g a (failure_passes e step d) = let k = a (Err e) _ step in (e, refl, subst (IsRefusal from) (let q = k.1 in cc) k.2)
-  map_answers_refusal_where_source_refuses s _ t g a (keeps x v y step called is d) = no_item_refuses x (a (Ok (Some x)) _ step)
-  map_answers_refusal_where_source_refuses s _ t g a (refuses x v e step called is d) = no_item_refuses x (a (Ok (Some x)) _ step)
-  map_answers_refusal_where_source_refuses s _ t g a (closes x v step called is d) = no_item_refuses x (a (Ok (Some x)) _ step)
-  map_answers_refusal_where_source_refuses s r t g a (leaves_out x v step called is d) = no_item_refuses x (a (Ok (Some x)) _ step)
-
-  map_refuses_next : (t : S) (g : F) → g ≡ f → RefusesNext steps from t → RefusesNext MapSteps from (t, g)
-  map_refuses_next t g same a = subst (λ (j : F). RefusesNext MapSteps from (t, j)) (sym same) (λ r q w. map_answers_refusal_where_source_refuses t r q.0 q.1 a (passes_of_pass_trace w))
-
-  -- what the map makes of one of the list
-  abbrev told_of : Result X E → Result Y E
-  told_of (Ok x) = Ok (h x)
-  told_of (Err e) = Err e
-
-  abbrev MapRefusedOrMade : Result X E → List (Result X E) → Answered C E → S → F → Type 0
-  MapRefusedOrMade z l r t g = AtRefusal made MapSteps from r (t, g) ⊎ (IsMadeOf made (told_of z) r × (g ≡ f) × GivesMade of steps from t l)
-
-  map_refused_or_made_of_failure : (z : Result X E) (l : List (Result X E)) (e : E) (t : S) → IsRefusal from e ⊎ ((z ≡ Err e) × GivesMade of steps from t l) → MapRefusedOrMade z l (Err e) t f
-  map_refused_or_made_of_failure z l e t (inl r) = inl (inl (e, refl, r))
-  map_refused_or_made_of_failure z l e t (inr k) = inr (subst (λ (w : Result X E). IsMadeOf made (told_of w) (Err e)) (sym k.0) refl, refl, k.1)
-
-  map_refused_or_made_of_kept : (z : Result X E) (l : List (Result X E)) (b : B) (v : Result C E) (y : C) (t : S) (g : F) → map_outcome b v ≡ Kept y → call f b v g → ItemTold of steps from z b t (GivesMade of steps from t l) → MapRefusedOrMade z l (Ok (Some y)) t g
-  map_refused_or_made_of_kept z l b v y t g is called (inl (x, m, next)) = let c = makes x b v g m called in inl (inr (h x, y, is_made_of_kept made from b (Ok (h x)) v y is c.1, refl, map_refuses_next t g c.0 next))
-  map_refused_or_made_of_kept z l b v y t g is called (inr (x, same, m, rest)) = let c = makes x b v g m called in inr (subst (λ (w : Result X E). IsMadeOf made (told_of w) (Ok (Some y))) (sym same) (is_made_of_kept made from b (Ok (h x)) v y is c.1), c.0, rest)
-
-  answers_refusal_of_failing_call : (x : X) (b : B) (v : Result C E) (e : E) → map_outcome b v ≡ Failure e → IsToldOrRefused made from (Ok (h x)) v → AnswersRefusal {B = C} from (Err e)
-  answers_refusal_of_failing_call x b v e is m = elim (refusal_or_made_of_failure made from b (Ok (h x)) v e is m) [ inl r ↦ r | inr k ↦ absurd k ]
-
-  map_refused_or_made_of_failing_call : (z : Result X E) (l : List (Result X E)) (b : B) (v : Result C E) (e : E) (t : S) (g : F) → map_outcome b v ≡ Failure e → call f b v g → ItemTold of steps from z b t (GivesMade of steps from t l) → MapRefusedOrMade z l (Err e) t g
-  map_refused_or_made_of_failing_call z l b v e t g is called (inl (x, m, next)) = inl (inl (answers_refusal_of_failing_call x b v e is (makes x b v g m called).1))
-  map_refused_or_made_of_failing_call z l b v e t g is called (inr (x, same, m, rest)) = inl (inl (answers_refusal_of_failing_call x b v e is (makes x b v g m called).1))
-
-  map_refused_or_made_of_gives_made : (z : Result X E) (l : List (Result X E)) (s : S) (r : Answered C E) (t : S) (g : F) → GivesMade of steps from s (z ∷ l) → MapDrawsOne s r t g → MapRefusedOrMade z l r t g
-  map_refused_or_made_of_gives_made z l s _ t g a (end_passes step d) = answer_told_is_never_end of steps from z _ (a (Ok None) _ step)
-  map_refused_or_made_of_gives_made z l s _ t g a (failure_passes e step done) = map_refused_or_made_of_failure z l e t (failure_told of steps from z e t (a (Err e) t step))
-  map_refused_or_made_of_gives_made z l s _ t g a (keeps b v y step called is done) = map_refused_or_made_of_kept z l b v y t g is called (item_told of steps from z b t (a (Ok (Some b)) t step))
-  map_refused_or_made_of_gives_made z l s _ t g a (refuses b v e step called is done) = map_refused_or_made_of_failing_call z l b v e t g is called (item_told of steps from z b t (a (Ok (Some b)) t step))
-  map_refused_or_made_of_gives_made z l s _ t g a (closes b v step called is d) = absurd (map_outcome_is_never_end b v is)
-  map_refused_or_made_of_gives_made z l s r t g a (leaves_out b v step called is d) = absurd (map_outcome_is_never_left_out made from b v is)
-
-  abbrev MapGivesMade : S → F → List (Result Y E) → Type 0
-  MapGivesMade t g k = GivesMade made MapSteps from (t, g) k
-
-  map_at_refusal_or_gives_made : (z : Result X E) (l : List (Result X E)) (k : List (Result Y E)) → ((t : S) → GivesMade of steps from t l → MapGivesMade t f k) → (r : Answered C E) (t : S) (g : F) → MapRefusedOrMade z l r t g → AtRefusal made MapSteps from r (t, g) ⊎ (IsMadeOf made (told_of z) r × MapGivesMade t g k)
-  map_at_refusal_or_gives_made z l k later r t g (inl q) = inl q
-  map_at_refusal_or_gives_made z l k later r t g (inr w) = inr (w.0, subst (λ (j : F). MapGivesMade t j k) (sym w.1) (later t w.2))
-
-  map_gives_made_of_gives_made : (l : List (Result X E)) (s : S) → GivesMade of steps from s l → MapGivesMade s f (mapped (λ x. Ok (h x)) l)
-  unfolding mapped
-  map_gives_made_of_gives_made [] s a = λ r t w. end_of_nil a (passes_of_pass_trace w)
-  map_gives_made_of_gives_made (Err d ∷ l) s a = λ r t w. map_at_refusal_or_gives_made (Err d) l (mapped (λ x. Ok (h x)) l) (λ u b. map_gives_made_of_gives_made l u b) r t.0 t.1 (map_refused_or_made_of_gives_made (Err d) l s r t.0 t.1 a (passes_of_pass_trace w))
-  map_gives_made_of_gives_made (Ok x ∷ l) s a = λ r t w. map_at_refusal_or_gives_made (Ok x) l (mapped (λ x. Ok (h x)) l) (λ u b. map_gives_made_of_gives_made l u b) r t.0 t.1 (map_refused_or_made_of_gives_made (Ok x) l s r t.0 t.1 a (passes_of_pass_trace w))
-
--- `map` over what lists made values lists what h makes of them, up to an allocation failure
-pub made_by_map_of_made : {S F X Y B C E : Type 0} {steps : S → Answered B E → S → Type 0} {g : Mut F (B × Unit {0}) (Result C E)} {of : X → B → Type 0} {made : Y → C → Type 0} {from : AllocError → E → Type 0} {it : S} {f : F} {l : List (Result X E)} {s : Map S F} (h : X → Y) → map_parts s ≡ (it, f) → MakesOf of made from (call_by_value g) f h → ListsMade of steps from it l
-    → ListsMade made (λ u r v. passing_step steps (call_by_value g) map_outcome (map_parts u) r (map_parts v)) from s (mapped (λ x. Ok (h x)) l)
-made_by_map_of_made {steps = steps} {g = g} {of = of} {made = made} {from = from} {it = it} {f = f} {l = l} {s = s} h parts makes i = lists_made_seen made from map_parts (passing_step steps (call_by_value g) map_outcome) s (it, f) _ _ parts refl (map_gives_made_of_gives_made steps (call_by_value g) of made from f h makes l it i.runs)
 
 -- ---- what draws up to a last answer are made of
 
@@ -261,13 +193,20 @@ module _ {S V B E : Type 0} (steps : S → Answered B E → S → Type 0) (made 
   last_told z l (Err e) s t a step = draws_told_of_last_failure z e l (failure_told made steps from z e t (a (Err e) t step))
   last_told z l (Ok (Some y)) s t a step = draws_told_of_last_item z y l t (item_told made steps from z y t (a (Ok (Some y)) t step))
 
-  ended_told : (last : Answered B E) → last ≡ end → DrawsTold [] [] last
-  ended_told last is = inr (subst (λ (r : Answered B E). DrawnMade made [] [] r) (sym is) (drawn_made_of_rest_told made [] end refl))
+  ended_told : (last : Answered B E) (t : S) → AtRefusal made steps from last t ⊎ (last ≡ end) → DrawsTold [] [] last
+  ended_told last t (inl (inl q)) = inl q
+  ended_told last t (inl (inr h)) = inr (subst (λ (r : Answered B E). DrawnMade made [] [] r) (sym h.3) (drawn_made_of_rest_told made [] (Ok (Some h.1)) (h.0, h.2)))
+  ended_told last t (inr is) = inr (subst (λ (r : Answered B E). DrawnMade made [] [] r) (sym is) (drawn_made_of_rest_told made [] end refl))
+
+  refused_after_buffered : (y : B) (ys : List B) (last : Answered B E) (u t : S) → AtRefusal made steps from (item y) u ⊎ ◌≡◌ {A = Answered B E} (item y) end → Run steps u (map item ys ++ last ∷ []) t → AnswersRefusal from last
+  refused_after_buffered y ys last u t (inl (inl q)) ran = absurd (let e = q.1 in cc)
+  refused_after_buffered y ys last u t (inl (inr h)) ran = last_refused_of_refuses_next ys last u t h.4 ran
+  refused_after_buffered y ys last u t (inr is) ran = absurd cc
 
   draws_told : (ys : List B) (last : Answered B E) (l : List (Result V E)) (s t : S) → MadeOrRefused s l → Run steps s (map item ys ++ last ∷ []) t → DrawsTold l ys last
-  draws_told [] last [] s t a ran = ended_told last (a last ran.0 ran.1)
+  draws_told [] last [] s t a ran = ended_told last ran.0 (a last ran.0 ran.1)
   draws_told [] last (z ∷ l) s t a ran = last_told z l last s ran.0 a ran.1
-  draws_told (y ∷ ys) last [] s t a ran = absurd (let e = a (item y) ran.0 ran.1 in cc)
+  draws_told (y ∷ ys) last [] s t a ran = inl (refused_after_buffered y ys last ran.0 t (a (item y) ran.0 ran.1) ran.2)
   draws_told (y ∷ ys) last (z ∷ l) s t a ran = first_item z y l ys last ran.0 t (λ k. draws_told ys last l ran.0 t k ran.2) ran.2 (item_told made steps from z y ran.0 (a (item y) ran.0 ran.1))
 
 -- ---- what consumers make of it

@@ -1,4 +1,5 @@
 -- Lemmas on the runs of such types: one file a type.
+pub mod Askable
 pub mod Convert
 pub mod ConvertFused
 pub mod Empty

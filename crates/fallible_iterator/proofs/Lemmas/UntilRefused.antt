@@ -31,7 +31,7 @@ module _ {S B E : Type 0} (steps : S → Answered B E → S → Type 0) (from : 
   always_of_until_refused none (y ∷ l) s a = λ r t w. elim (a r t w) [ inl q ↦ absurd (none q.0 q.2) | inr k ↦ (result_is_answer_made y r k.0, always_of_until_refused none l t k.1) ]
 
 gives_made_until_refused : {S V B E : Type 0} (made : V → B → Type 0) (steps : S → Answered B E → S → Type 0) (from : AllocError → E → Type 0) (l : List (Result V E)) (s : S) → GivesUntilRefused made steps from s l → GivesMade made steps from s l
-gives_made_until_refused made steps from [] s a = a
+gives_made_until_refused made steps from [] s a = λ r t w. inr (a r t w)
 gives_made_until_refused made steps from (y ∷ l) s a = λ r t w. elim (a r t w) [ inl q ↦ inl (inl q) | inr k ↦ inr (k.0, gives_made_until_refused made steps from l t k.1) ]
 
 -- so values made of the list's items are listed, up to an allocation failure

@@ -1,5 +1,5 @@
 -- What list words come to, of one another and of items alone: equations, each named by its left side. Where a closure is written `λ x. Ok (f x)`, it never fails.
-use Rattle.std.specs.Prelude.{◌≡◌, ℕ, zero, suc, ◌+◌, List, [], ◌∷◌, ◌++◌, length, map, take, drop, min, filter, fold, Bool, true, false, cond, ◌&&◌, ◌||◌, Option, Some, None, Result, Ok, Err, reverse, option_map}
+use Rattle.std.specs.Prelude.{◌≡◌, ℕ, zero, suc, ◌+◌, ◌≤◌, List, [], ◌∷◌, ◌++◌, length, map, take, drop, min, filter, fold, Bool, true, false, cond, ◌&&◌, ◌||◌, Option, Some, None, Result, Ok, Err, reverse, option_map}
 use Rattle.std.proofs.Common.{refl, sym, ap, ◌∙◌, arith}
 use Rattle.std.specs.List.{last_or, find, list_all, list_any}
 use Rattle.std.proofs.lemmas.List.{reverse-append, append-nil}
@@ -317,6 +317,15 @@ module _ {A E : Type 0} (p : A → Bool) where
 -- ---- the first and the rest
 
 module _ {A E : Type 0} where
+  -- of a list that has no more than n items and failures
+  pub taken_whole : (n : ℕ) (l : List (Result A E)) → length l ≤ n → taken n l ≡ l
+  unfolding taken
+  taken_whole zero [] few = refl
+  taken_whole zero (y ∷ l) few = absurd (omega (arith, few))
+  taken_whole (suc n) [] few = refl
+  taken_whole (suc n) (Ok x ∷ l) few = ap (λ (t : List (Result A E)). Ok x ∷ t) (taken_whole n l (omega (arith, few)))
+  taken_whole (suc n) (Err e ∷ l) few = ap (λ (t : List (Result A E)). Err e ∷ t) (taken_whole (suc n) l (omega (arith, few)))
+
   pub taken_taken : (n k : ℕ) (l : List (Result A E)) → taken n (taken k l) ≡ taken (min n k) l
   unfolding taken
   taken_taken zero k l = let less : zero ≡ min zero k = omega arith in ap (λ i. taken i l) less

@@ -1,19 +1,17 @@
 //! What a std iterator over a fallible one reads, and what becomes of it on the way back.
-ghost use Rattle.std.specs.Prelude.{◌≡◌, ◌↔◌, List, Option, Result, Ok, Err, map};
+ghost use Rattle.std.specs.Prelude.{◌≡◌, List, Result, Ok, Err};
 ghost use Rattle.std.specs.Result.{result_transpose};
-ghost use Rattle.std.specs.List.{FoldsTo};
 ghost use Rattle.std.specs.Iterator.Runs.{EachRunFrom, ItemsAre};
-ghost use Rattle.fallible_contract.specs.Traces.{Answered, Run};
+ghost use Rattle.fallible_contract.specs.Traces.{Run};
 ghost use Rattle.fallible_contract.specs.LawForm.{TracesAre};
 ghost use Rattle.fallible_contract.specs.Lists.{Lists};
 ghost use Rattle.fallible_core.specs.Bridges.Iterator.{iterator_parts};
-ghost use Rattle.fallible_core.specs.Bridges.Unwrap.{unwrap_parts};
 ghost use Rattle.fallible_iterator.specs.Nests.{RunsAsSource};
 ghost use Rattle.fallible_iterator.specs.Sources.Std.{IsAskable, IsAskableAtEnds};
 ghost use Rattle.fallible_iterator.specs.Sources.Convert.{convert_parts};
 
 use crate::sources::Convert;
-use fallible_core::bridges::{Iterator, Unwrap};
+use fallible_core::bridges::Iterator;
 use fallible_core::{DoubleEndedFallibleIterator, FallibleIterator};
 
 /// Position by position, the elements that std's `next` of an `Iterator` returns are its source's answers: an item or a failure is an element, an `Ok(None)` is `None`. It may be converted back, and drawn from then, wherever its source may be drawn from.
@@ -49,11 +47,4 @@ pub fn law_back_iterator<I: DoubleEndedFallibleIterator>()
         → Lists I.ends.steps (iterator_parts s) l
         → EachRunFrom ⟦<Iterator<I> as std::iter::DoubleEndedIterator>⟧.next_back_gives s
         (λ p. ItemsAre p l) }
-{}
-
-/// Position by position, what std's `next` of an `Unwrap` returns are its source's items and `Ok(None)`s: none is a failure.
-pub fn law_unwrap<I: FallibleIterator>()
-    ensures { (s : Unwrap I) (given : List (Option I.Item)) (t : Unwrap I)
-        → FoldsTo ⟦<Unwrap<I> as std::iter::Iterator>⟧.next_gives s given t
-        ↔ Run I.contract.steps (unwrap_parts s) (map Ok given) (unwrap_parts t) }
 {}

@@ -1,6 +1,5 @@
 //! What a value lists from both ends, as its type defines it.
-ghost use Rattle.std.specs.Prelude.{◌≡◌, List, Option, Result, Bool, reverse};
-ghost use Rattle.std.specs.Borrow.{MutBor};
+ghost use Rattle.std.specs.Prelude.{◌≡◌, List, Result, Bool};
 ghost use Rattle.fallible_contract.specs.Closures.{call_by_value, call_by_reference};
 ghost use Rattle.fallible_contract.specs.Traces.{Answered};
 ghost use Rattle.fallible_contract.specs.Lists.{Lists, Acts};
@@ -8,11 +7,8 @@ ghost use Rattle.fallible_contract.specs.BothEnds.{ListsBothEnds};
 ghost use Rattle.fallible_core.specs.OneToOne.Map.{mapped, map_parts};
 ghost use Rattle.fallible_core.specs.Filtering.Filter.{filtered, filter_parts};
 ghost use Rattle.fallible_core.specs.Joining.Chain.{chain_parts, chained};
-ghost use Rattle.fallible_core.specs.Ends.Rev.{rev_parts};
 ghost use Rattle.fallible_iterator.specs.Listing.{DrawsInterleave};
 ghost use Rattle.fallible_contract.specs.declared.answers.Side.{Side};
-ghost use Rattle.std.specs.declared.boxed.Box.{Box};
-ghost use Rattle.std.specs.declared.alloc.Global.{Global};
 ghost use Rattle.fallible_core.specs.declared.joining.chain.StillDrawn.TheVariants.{Both};
 
 mod adapters;
@@ -58,22 +54,6 @@ pub fn law_lists<I: Listed>(s: &I)
     let _value = s;
     law_listed::<I>();
 }
-
-/// What a `Rev` lists, its source lists reversed; what a `&mut I` or a `Box<I>` lists, the value lists that it points to. Their definitions say it the other way round.
-pub fn law_listed_source<'a, I: DoubleEndedFallibleIterator + 'a>()
-    ensures reversed { (s : Rev I) (l : List (Result I.Item I.Error))
-        → ListsBothEnds ⟦<Rev<I> as FallibleIterator>⟧.contract.steps
-        ⟦<Rev<I> as DoubleEndedFallibleIterator>⟧.ends.steps s l
-        → ListsBothEnds I.contract.steps I.ends.steps (rev_parts s) (reverse l) }
-    ensures borrowed { (s : MutBor I) (l : List (Result I.Item I.Error))
-        → ListsBothEnds ⟦<&'a mut I as FallibleIterator>⟧.contract.steps
-        ⟦<&'a mut I as DoubleEndedFallibleIterator>⟧.ends.steps s l
-        → ListsBothEnds I.contract.steps I.ends.steps s.now l }
-    ensures boxed { (s : Box I Global) (l : List (Result I.Item I.Error))
-        → ListsBothEnds ⟦<Box<I> as FallibleIterator>⟧.contract.steps
-        ⟦<Box<I> as DoubleEndedFallibleIterator>⟧.ends.steps s l
-        → ListsBothEnds I.contract.steps I.ends.steps s.value l }
-{}
 
 // ---- from the back alone, of one value, which is passed to the law
 

@@ -4,13 +4,12 @@ ghost use Rattle.std.specs.Vec.Iter.{into_iter_items};
 ghost use Rattle.fallible_contract.specs.Lists.{Lists, RunsReadBack, results, items, reversed};
 ghost use Rattle.fallible_contract.specs.BothEnds.{ListsBothEnds};
 ghost use Rattle.fallible_iterator.specs.Sources.Convert.{convert_parts};
-ghost use Rattle.fallible_iterator.specs.Sources.IntoFallible.{into_fallible_parts};
 ghost use Rattle.std.specs.declared.vec.IntoIter.{IntoIter};
 ghost use Rattle.std.specs.declared.alloc.Global.{Global};
 ghost use Rattle.fallible_iterator.specs.declared.sources.convert.Convert.{Convert};
 
 use super::listed::law_listed;
-use crate::sources::{Convert, IntoFallible};
+use crate::sources::Convert;
 use fallible_core::{DoubleEndedFallibleIterator, FallibleIterator};
 use std::alloc::Global;
 use std::vec;
@@ -23,14 +22,6 @@ pub fn law_back_convert<T, E, I: std::iter::DoubleEndedIterator<Item = Result<T,
     ensures items_back { (s : Convert I) (l : List T)
         → RunsReadBack I.next_back_gives Ok (convert_parts s) l
         → Lists ⟦<Convert<I> as DoubleEndedFallibleIterator>⟧.ends.steps s (reversed (items l)) }
-{}
-
-/// From the back `IntoFallible` lists what the std iterator reads from the back, each element an item.
-pub fn law_back_into_fallible<T, I: std::iter::DoubleEndedIterator<Item = T>>()
-    ensures lists_back { (s : IntoFallible I) (l : List T)
-        → RunsReadBack I.next_back_gives (λ x. x) (into_fallible_parts s) l
-        → Lists ⟦<IntoFallible<I> as DoubleEndedFallibleIterator>⟧.ends.steps s
-        (reversed (items l)) }
 {}
 
 /// `Convert` of a vector's iterator lists from both ends what is left of the vector.

@@ -74,6 +74,8 @@ pub fn convert<T, E, I: Iterator<Item = Result<T, E>>>(it: I) -> Convert<I>
 pub fn convert_fused<T, E, I: Iterator<Item = Result<T, E>>>(it: I) -> Convert<Fuse<I>>
     ensures source { fuse_source (convert_parts result) ≡ it }
     ensures fresh { fuse_done (convert_parts result) ≡ false }
+    ensures asks { I.can_next it
+        → ⟦<Convert<Fuse<I>> as FallibleIterator>⟧.contract.can_next result }
     ensures results { (l : List (Result T E)) → RunsRead I.next_gives (λ y. y) it l
         → Lists ⟦<Convert<Fuse<I>> as FallibleIterator>⟧.contract.steps result (results l) }
     ensures items { (l : List T) → ItemsRead I.next_gives it l

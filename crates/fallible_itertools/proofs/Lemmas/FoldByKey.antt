@@ -108,6 +108,7 @@ module _ {B X E : Type 0} (h : B → X → Result B E) where
       by_first (Ok c) later = later c
       by_first (Err e) later = refl
 
+  -- The fold of two lists, one after the other, is that of the second from the fold of the first on, or the first's failure.
   pub fold_of_append : (xs : List X) (b : B) (ys : List X) → fold_of h b (xs ++ ys) ≡ on_value (fold_of h b xs) (λ c. fold_of h c ys)
   unfolding folded
   fold_of_append [] b ys = refl
@@ -124,13 +125,14 @@ module _ {B X E : Type 0} (h : B → X → Result B E) where
     fold_where_none_fails [] b = (b, refl)
     fold_where_none_fails (x ∷ xs) b = let first = always b x in let rest = fold_where_none_fails xs first.0 in (rest.0, ap (λ r. on_value r (λ c. fold_of h c xs)) first.1 ∙ rest.1)
 
+    -- If the closure never fails, `checked_folds` replaces no pair by a failure.
     pub checked_folds_where_none_fails : {K : Type 0} (eq : K → K → Bool) (init : B) (l : List (Result (K × X) E)) (before : List (K × X)) → checked_folds eq h init before l ≡ l
     unfolding checked_folds
     checked_folds_where_none_fails eq init [] before = refl
     checked_folds_where_none_fails {K} eq init (Ok p ∷ l) before = let made = fold_where_none_fails (values_where (eq p.0) (before ++ p ∷ [])) init in ap (λ r. unless_failed p r ∷ checked_folds eq h init (before ++ p ∷ []) l) made.1 ∙ ap {B = List (Result (K × X) E)} (λ k. Ok p ∷ k) (checked_folds_where_none_fails eq init l (before ++ p ∷ []))
     checked_folds_where_none_fails {K} eq init (Err e ∷ l) before = ap {B = List (Result (K × X) E)} (λ k. Err e ∷ k) (checked_folds_where_none_fails eq init l before)
 
-  -- each group is folded
+  -- Law: Where `into_group_map` makes a group of pairs, `fold_by_key` makes the fold of that group's values.
   pub folds_of_groups : {K S R : Type 0} (eq : K → K → Bool) (init : B) (pairs : List (K × X)) (groups : hash.HashMap K (Vec X Global) S) (folds : hash.HashMap K B R) → IsGroupMapOf eq pairs groups → IsKeyFoldOf eq h init pairs folds → (k : K) → option_map (λ b. Ok b) (hash.get eq folds k) ≡ option_map (λ v. fold_of h init (vec_items v)) (hash.get eq groups k)
   folds_of_groups eq init pairs groups folds grouped folded k = folded.folds k ∙ ap (λ o. option_map (fold_of h init) o) (sym (grouped.grouped k)) ∙ of_both (hash.get eq groups k)
     where

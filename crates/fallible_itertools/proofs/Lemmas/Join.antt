@@ -1,10 +1,12 @@
 -- A text made of the items by one fold.
-use Rattle.std.specs.Prelude.{◌≡◌, ℕ, List, [], ◌∷◌, ◌++◌, Bool, true, false, cond, Option, Some, None, Ok, Err}
+use Rattle.std.specs.Prelude.{◌≡◌, ℕ, List, [], ◌∷◌, ◌++◌, Bool, true, false, cond, Option, Result, ⊤}
 use Rattle.std.proofs.Common.{refl, sym, ap, ◌∙◌, append_assoc}
 use Rattle.fallible_iterator.specs.Traces.{Answered}
 use Rattle.fallible_iterator.specs.Folds.{Driven}
-use Rattle.fallible_iterator.specs.Collecting.{CollectsAll, FailsWith, RefusesItem}
-use Rattle.fallible_iterator.proofs.Lemmas.Collecting.{collects_all_gathered, fails_with_gathered, refuses_item_gathered}
+use Rattle.fallible_iterator.specs.Collecting.{Collects}
+use Rattle.fallible_iterator.specs.Fault.{Fault}
+use Rattle.fallible_itertools.specs.Gathering.{gathered}
+use Rattle.fallible_itertools.proofs.Lemmas.Gathering.{collects_by_fold}
 use Rattle.fallible_itertools.specs.Join.{joined, JoinedAs, IsJoinTurn}
 use Rattle.std.specs.declared.string.String.{String}
 use Rattle.std.specs.declared.ops.ControlFlow.TheVariants.{Continue}
@@ -37,12 +39,5 @@ module _ {A X : Type 0} (output : A → Option (List ℕ)) (separator : List ℕ
     λ show shows. w.1 (show x) (shows x) ∙ ap (λ (t : List ℕ). t ++ (cond c.0 separator [] ++ show x)) (h.1 show shows) ∙ ap (λ (b : Bool). joined show separator items ++ (cond b separator [] ++ show x)) h.0 ∙ sym (joined_of_items_and_one_more show separator items x),
   )
 
-  module _ {S E : Type 0} {steps : S → Answered A E → S → Type 0} {s t : S} {c d : Bool × String X} (is_empty : WrittenItems [] c) where
-    pub collects_all_joined : Driven steps (IsJoinTurn output separator) s c (Ok None) t d → CollectsAll steps (JoinedAs output separator) s d.1
-    collects_all_joined w = let h = collects_all_gathered WrittenItems (IsJoinTurn output separator) written_items_with_one_more_after_turn steps is_empty d w in record { items = h.items; after = h.after; ran = h.ran; is_made = h.is_made.1 }
-
-    pub fails_with_join : {e : E} → Driven steps (IsJoinTurn output separator) s c (Err e) t d → FailsWith {C = String X} steps (JoinedAs output separator) s e
-    fails_with_join {e = e} w = let h = fails_with_gathered WrittenItems (IsJoinTurn output separator) written_items_with_one_more_after_turn steps is_empty d e w in record { items = h.items; collection = h.collection.1; after = h.after; ran = h.ran; is_made = h.is_made.1 }
-
-    pub refuses_item_join_refused : {a : AllocError} → Driven steps (IsJoinTurn output separator) s c (Ok (Some a)) t d → RefusesItem {C = String X} steps (JoinedAs output separator) (λ _ _. Unit {0}) s
-    refuses_item_join_refused {a = a} w = let h = refuses_item_gathered WrittenItems (IsJoinTurn output separator) written_items_with_one_more_after_turn steps is_empty d a (λ _ _. Unit {0}) (λ c x d p. tt) w in record { items = h.items; refused = h.refused; collection = h.collection.1; after = h.after; ran = h.ran; is_made = h.is_made.1; refuses_it = tt }
+  pub collects_joined : {S E : Type 0} {steps : S → Answered A E → S → Type 0} {s t : S} {c d : Bool × String X} {answer : Answered AllocError E} {r : Result (String X) (Fault E)} → WrittenItems [] c → Driven steps (IsJoinTurn output separator) s c answer t d → r ≡ gathered answer d.1 → Collects steps (JoinedAs output separator) ⊥ (λ _ _. ⊤) s r
+  collects_joined is_empty w is = collects_by_fold (JoinedAs output separator) WrittenItems (λ c. c.1) (λ _ _. ⊤) (IsJoinTurn output separator) written_items_with_one_more_after_turn (λ c x a d p. tt) (λ items c h. h.1) is_empty w is

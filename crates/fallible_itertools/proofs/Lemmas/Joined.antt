@@ -13,6 +13,7 @@ module _ {A : Type 0} (show : A → List ℕ) (separator : List ℕ) where
   mul_of_zero : (m s : ℕ) → m ≡ 0 → m * s ≡ 0
   mul_of_zero m s is = ap (λ i. i * s) is ∙ zero-mul s
 
+  -- Law: The text of n items has the bytes of each, and n - 1 times those of the separator.
   pub length_joined : (xs : List A) → length (joined show separator xs) ≡ sum_by (λ x. length (show x)) xs + (length xs - 1) * length separator
   length_joined [] = omega (arith, mul_of_zero (length {A = A} [] - 1) (length separator) (omega arith))
   length_joined (x ∷ []) = omega (arith, mul_of_zero (length (x ∷ []) - 1) (length separator) (omega arith), sum_by-cons (λ x. length (show x)) x [])
@@ -31,6 +32,7 @@ module _ {A : Type 0} (show : A → List ℕ) (separator : List ℕ) where
   joined_one_more w x [] after = refl
   joined_one_more w x (v ∷ before) after = refl
 
+  -- The text of an item stands where those of the items before it end, each with a separator, and then comes the separator, if an item comes after it.
   pub stands_in_text : (before : List A) (x : A) (after : List A) → StandsInText show separator before x after
   stands_in_text [] x after = ([], joined_first x after, omega (arith, zero-mul (length separator)))
   stands_in_text (w ∷ before) x after =

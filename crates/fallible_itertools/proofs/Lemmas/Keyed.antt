@@ -5,7 +5,6 @@ use Rattle.std.specs.Fn.{Mut}
 use Rattle.std.specs.Borrow.{Bor}
 use Rattle.fallible_iterator.specs.Contract.{Contract, seen_as}
 use Rattle.fallible_iterator.specs.Closures.{call_by_reference}
-use Rattle.fallible_iterator.specs.Passing.{LeavesNoneOut}
 use Rattle.fallible_iterator.specs.Lists.{Lists, Acts}
 use Rattle.fallible_iterator.proofs.Lemmas.Lists.Passing.{passed, by_outcome, lists_seen, always_gives_passed}
 use Rattle.fallible_itertools.specs.Keyed.{keyed_outcome, keyed_parts, keyed_contract, with_key, keyed}
@@ -24,8 +23,3 @@ passed_is_keyed h (Err e ∷ l) = ap (λ t. Err e ∷ t) (passed_is_keyed h l)
 pub lists_keyed : {S F X K E : Type 0} (m : Contract S X E) (g : Mut F (Bor X × Unit {0}) (Result K E)) (s : Keyed S F) (h : X → Result K E) (l : List (Result X E)) → Acts (call_by_reference g) s.f h → Lists m.steps s.it l
     → Lists (seen_as keyed_parts (keyed_contract m g)).steps s (keyed h l)
 lists_keyed m g s h l a i = lists_seen keyed_parts (keyed_contract m g).steps s refl (passed_is_keyed h l) (always_gives_passed (call_by_reference g) s.f h a m.steps keyed_outcome s.it l i.runs)
-
--- it leaves nothing out
-pub leaves_none_out_keyed : {X K E : Type 0} → LeavesNoneOut {X = X} {B = K × X} {E = E} keyed_outcome
-leaves_none_out_keyed x (Ok k) = refl
-leaves_none_out_keyed x (Err e) = refl

@@ -69,7 +69,7 @@ module _ {A E : Type 0} where
       pub partitioned_failures_of_lists : (empty_refuses : Type 0) (refuses : C × D → Either A E → Type 0) {s : S} (r : Result (C × D) AllocError) (l : List (Result A E)) → Collects (parted_step steps) (MadeOfEithers made_items made_failures) empty_refuses refuses s (without_source r) → Lists steps s l → PartitionedFailuresAs made_items made_failures l r
       partitioned_failures_of_lists empty_refuses refuses {s = s} r l h i = partitioned_of_collected l r (collected_of_lists (MadeOfEithers made_items made_failures) empty_refuses refuses (without_source r) (all_items (eithers l)) h (record { runs = always_gives_parted l s i.runs }))
 
--- items and failures make up the list, each in their order
+-- Law: A list's items and its failures, each in their order, make up the list.
 pub interleaved_parts : {A E : Type 0} (l : List (Result A E)) → Interleaved (map (λ x. Ok x) (items_listed l)) (map (λ e. Err e) (failures_listed l)) l
 interleaved_parts [] = interleaved_nil
 interleaved_parts (Ok x ∷ l) = of_first (Ok x) (interleaved_parts l)

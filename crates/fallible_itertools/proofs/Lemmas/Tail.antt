@@ -1,11 +1,13 @@
 -- The fold whose state is the last items keeps them.
-use Rattle.std.specs.Prelude.{◌≡◌, ℕ, ◌+◌, ◌-◌, ◌≤◌, List, [], ◌∷◌, ◌++◌, length, drop, Some, None, Ok, Err}
+use Rattle.std.specs.Prelude.{◌≡◌, ℕ, ◌+◌, ◌-◌, ◌≤◌, List, [], ◌∷◌, ◌++◌, length, drop, Result}
 use Rattle.std.proofs.Common.{refl, sym, ap, subst, ◌∙◌, arith}
 use Rattle.std.proofs.lemmas.List.{drop-append-le, drop-drop, length-append, length-drop}
 use Rattle.fallible_iterator.specs.Traces.{Answered}
 use Rattle.fallible_iterator.specs.Folds.{Driven}
-use Rattle.fallible_iterator.specs.Collecting.{CollectsAll, FailsWith, RefusesItem}
-use Rattle.fallible_iterator.proofs.Lemmas.Collecting.{collects_all_gathered, fails_with_gathered, refuses_item_gathered}
+use Rattle.fallible_iterator.specs.Collecting.{Collects}
+use Rattle.fallible_iterator.specs.Fault.{Fault}
+use Rattle.fallible_itertools.specs.Gathering.{gathered}
+use Rattle.fallible_itertools.proofs.Lemmas.Gathering.{collects_by_fold}
 use Rattle.fallible_itertools.specs.Tail.{tail_of, IsTailOf, IsTailTurn, TailRefuses}
 use Rattle.std.specs.declared.ops.ControlFlow.TheVariants.{Continue}
 use Rattle.std.specs.declared.alloc.AllocError.{AllocError}
@@ -48,12 +50,5 @@ module _ {A : Type 0} (n : ℕ) where
     none_kept : (q : Q) → items_of q ≡ [] → IsTailOf items_of n [] q
     none_kept q is_empty = is_empty ∙ sym tail_of_empty_is_empty
 
-    module _ {S E : Type 0} {steps : S → Answered A E → S → Type 0} {s t : S} {q p : Q} (is_empty : items_of q ≡ []) where
-      pub collects_all_tail : Driven steps (IsTailTurn len capacity n items_of) s q (Ok None) t p → CollectsAll steps (IsTailOf items_of n) s p
-      collects_all_tail w = collects_all_gathered (IsTailOf items_of n) (IsTailTurn len capacity n items_of) kept_more steps (none_kept q is_empty) p w
-
-      pub fails_with_tail : {e : E} → Driven steps (IsTailTurn len capacity n items_of) s q (Err e) t p → FailsWith steps (IsTailOf items_of n) s e
-      fails_with_tail {e = e} w = fails_with_gathered (IsTailOf items_of n) (IsTailTurn len capacity n items_of) kept_more steps (none_kept q is_empty) p e w
-
-      pub refuses_item_tail : {a : AllocError} → Driven steps (IsTailTurn len capacity n items_of) s q (Ok (Some a)) t p → RefusesItem steps (IsTailOf items_of n) (TailRefuses len capacity n) s
-      refuses_item_tail {a = a} w = refuses_item_gathered (IsTailOf items_of n) (IsTailTurn len capacity n items_of) kept_more steps (none_kept q is_empty) p a (TailRefuses len capacity n) (λ q x p refused. refused) w
+    pub collects_tail : {S E : Type 0} {steps : S → Answered A E → S → Type 0} {s t : S} {q p : Q} {answer : Answered AllocError E} {r : Result Q (Fault E)} → items_of q ≡ [] → Driven steps (IsTailTurn len capacity n items_of) s q answer t p → r ≡ gathered answer p → Collects steps (IsTailOf items_of n) ⊥ (TailRefuses len capacity n) s r
+    collects_tail {q = q} is_empty w is = collects_by_fold (IsTailOf items_of n) (IsTailOf items_of n) (λ q. q) (TailRefuses len capacity n) (IsTailTurn len capacity n items_of) kept_more (λ q x a p refused. refused) (λ items q kept. kept) (none_kept q is_empty) w is

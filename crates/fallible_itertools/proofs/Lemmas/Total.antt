@@ -50,17 +50,20 @@ module _ {N E : Type 0} (op : N → N → N) where
   added_after_one start x (Ok xs) = refl
   added_after_one start x (Err e) = refl
 
+  -- Law: The total of two lists, one after the other, is that of the second from the total of the first on, or the first's failure.
   pub added_append : (start : N) (a b : List (Result N E)) → added op start (a ++ b) ≡ on_value (added op start a) (λ t. added op t b)
   unfolding added collected
   added_append start [] b = refl
   added_append start (Ok x ∷ a) b = added_after_one start x (collected (a ++ b)) ∙ added_append (op start x) a b ∙ ap (λ r. on_value r (λ t. added op t b)) (sym (added_after_one start x (collected a)))
   added_append start (Err e ∷ a) b = refl
 
+  -- Law: The total of items is their fold, and that of no items its start.
   pub added_of_items : (start : N) (xs : List N) → added op start (items {E = E} xs) ≡ Ok (fold op start xs)
   unfolding added collected items
   added_of_items start [] = refl
   added_of_items start (x ∷ xs) = added_after_one start x (collected (items xs)) ∙ added_of_items (op start x) xs
 
+  -- A failure after items is the total, whatever comes after it.
   pub added_of_failure : (start : N) (xs : List N) (e : E) (rest : List (Result N E)) → added op start (items xs ++ Err e ∷ rest) ≡ Err e
   unfolding added collected
   added_of_failure start xs e rest = added_append start (items xs) (Err e ∷ rest) ∙ ap (λ r. on_value r (λ t. added op t (Err e ∷ rest))) (added_of_items start xs)

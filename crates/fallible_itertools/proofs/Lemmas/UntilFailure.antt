@@ -88,13 +88,14 @@ module _ {A E : Type 0} where
     lists_rest_failure empty_refuses {r = r} l (inl not) i is = absurd (let h = not.2.1 in cc)
     lists_rest_failure empty_refuses {steps = steps} {s = s} {t = t} {r = r} {d = d} {e = e} l (inr w) i is = lists_rest_failure_at_exit steps s t w.items w.last r w.at.collection d e l i w.ran w.at.exit is
 
--- the three words make up the list
+-- Where a list has no failure, `before_failure` has all of it.
 pub list_is_items_where_no_failure : {A E : Type 0} (l : List (Result A E)) → first_failure l ≡ None → l ≡ list.items (before_failure l)
 unfolding first_failure before_failure list.items
 list_is_items_where_no_failure [] e = refl
 list_is_items_where_no_failure (Ok x ∷ l) e = ap (λ k. Ok x ∷ k) (list_is_items_where_no_failure l e)
 list_is_items_where_no_failure (Err f ∷ l) e = absurd cc
 
+-- Law: Where a list has a failure, it is the items before it, the failure, and what comes after it.
 pub list_is_split_at_first_failure : {A E : Type 0} (l : List (Result A E)) (e : E) → first_failure l ≡ Some e → l ≡ list.items (before_failure l) ++ Err e ∷ rest_failure l
 unfolding first_failure before_failure rest_failure list.items
 list_is_split_at_first_failure [] e is = absurd cc

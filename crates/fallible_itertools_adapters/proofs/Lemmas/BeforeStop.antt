@@ -112,7 +112,7 @@ module _ {Q R H X B E : Type 0} (g : Q → R) (plan : H → X → Plan Q R (Tran
 
 -- ---- the hint where a failure is due
 
--- a hint that was made there is one that is made after it
+-- Law: Where a failure is due, each hint of an adapter that buffers, whose hint is by `hint_unless_end`, is one of what comes after it.
 pub hints_past_failure : {S H F X B E : Type 0} (m : Contract S X E) (meets : H × F → Answered X E → Emitted B (Option E) E → H × F → Type 0) (hint : H → HintPlan) (s : S × ((H × F) × Option (Option E))) (e : E) → s.1.1 ≡ Some (Some e) → HintsPastFailure (stage_step stop_comes meets m.steps) (plan_hint m (λ h due. hint_unless_end (hint h) due)) s e
 hints_past_failure {S = S} {H = H} {F = F} {E = E} m meets hint (s, (p, due)) e is t h step made = let w : stage_step stop_comes meets m.steps (s, (p, Some (Some e))) (Err e) t = subst (λ (d : Option (Option E)). stage_step stop_comes meets m.steps (s, (p, d)) (Err e) t) is step in
     subst (λ (q : S × ((H × F) × Option (Option E))). HintBy m q.0 (hint_unless_end (hint q.1.0.0) q.1.1) h) (sym (ap (λ (z : S). (z, t.1)) w.1 ∙ ap (λ (z : (H × F) × Option (Option E)). (s, z)) w.2)) (subst (λ (d : Option (Option E)). HintBy m s (hint_unless_end (hint p.0) d) h) is made)

@@ -65,6 +65,7 @@ module _ {A : Type 0} (E : Type 0) (n : ℕ) where
   joined_from None (Err e ∷ l) = joined_from None l
   joined_from (Some xs) (Err e ∷ l) = ap (λ (k : List A). xs ++ k) (joined_from None l)
 
+  -- Law: The batches of a list joined are its items.
   pub batches_joined_of_chunked_is_items : (l : List (Result A E)) → batches_joined (items_listed (chunked n l)) ≡ items_listed l
   unfolding chunked
   batches_joined_of_chunked_is_items l = joined_from None l
@@ -86,6 +87,7 @@ module _ {A : Type 0} (E : Type 0) (n : ℕ) where
   up_to_from some None (Err e ∷ l) few = up_to_from some None l tt
   up_to_from some (Some xs) (Err e ∷ l) few = (few.0, omega (arith, few.1), up_to_from some None l tt)
 
+  -- Each batch has some items and at most n.
   pub batches_up_to_all_sized : (l : List (Result A E)) → 0 < n → BatchesUpTo n (items_listed (chunked n l))
   unfolding chunked
   batches_up_to_all_sized l some = up_to_from some None l tt
@@ -110,6 +112,7 @@ module _ {A : Type 0} (E : Type 0) (n : ℕ) where
   whole_from some None (x ∷ ys) few = whole_at (x ∷ []) (ltb 1 n) (items ys) refl some (omega arith) (omega (arith, some)) (λ held k. whole_from some held ys k)
   whole_from some (Some xs) (x ∷ ys) few = let k = length_of_put_last xs x in whole_at (xs ++ x ∷ []) (ltb (length (xs ++ x ∷ [])) n) (items ys) refl some (omega (arith, k)) (omega (arith, k, few.1)) (λ held k. whole_from some held ys k)
 
+  -- If nothing fails, each batch but the last has n items.
   pub batches_of_all_whole : (ys : List A) → 0 < n → BatchesOf n (items_listed (chunked {E = E} n (items ys)))
   unfolding chunked
   batches_of_all_whole ys some = whole_from some None ys tt
@@ -137,6 +140,7 @@ module _ {A : Type 0} (E : Type 0) (n : ℕ) where
   each_full_from some None (Err e ∷ l) few = each_full_from some None l tt
   each_full_from some (Some xs) (Err e ∷ l) few = (tt, each_full_from some None l tt)
 
+  -- A batch that another one follows has n items.
   pub chunked_full_before_next : (l : List (Result A E)) → 0 < n → AdjacentItems IsFullBefore (chunked n l)
   unfolding chunked
   chunked_full_before_next l some = adjacent_items_of_each_next IsFullBefore (chunked n l) (each_full_from some None l tt)
@@ -155,9 +159,10 @@ module _ {A : Type 0} (E : Type 0) (n : ℕ) where
   failures_from None (Err e ∷ l) = ap (λ k. e ∷ k) (failures_from None l)
   failures_from (Some xs) (Err e ∷ l) = ap (λ k. e ∷ k) (failures_from None l)
 
-  pub failures_listed_stay : (l : List (Result A E)) → failures_listed (chunked n l) ≡ failures_listed l
+  -- The failures of `chunked` are the list's.
+  pub failures_of_chunked : (l : List (Result A E)) → failures_listed (chunked n l) ≡ failures_listed l
   unfolding chunked
-  failures_listed_stay l = failures_from None l
+  failures_of_chunked l = failures_from None l
 
   -- ---- its equations
 
@@ -192,14 +197,17 @@ module _ {A : Type 0} (E : Type 0) (n : ℕ) where
   chunked_short_from_none [] some few = absurd (omega (arith, some))
   chunked_short_from_none (y ∷ ys) some few = more_at (y ∷ []) (ltb 1 n) (items ys) (lt-ltb 1 n (omega (arith, few))) ∙ chunked_from_short (y ∷ []) ys few
 
+  -- Law: The first n items are a batch.
   pub chunked_of_first : (ys : List A) (l : List (Result A E)) → 0 < n → length ys ≡ n → chunked n (items ys ++ l) ≡ Ok ys ∷ chunked n l
   unfolding chunked
   chunked_of_first ys l some is = chunked_first_from_none ys l some is
 
+  -- Fewer than n items are a batch at the end.
   pub chunked_of_fewer : (ys : List A) → 0 < length ys → length ys < n → chunked {E = E} n (items ys) ≡ Ok ys ∷ []
   unfolding chunked
   chunked_of_fewer ys some few = chunked_short_from_none ys some few
 
+  -- `chunked` makes nothing of an empty list.
   pub chunked_of_none : chunked {A = A} {E = E} n [] ≡ []
   unfolding chunked
   chunked_of_none = refl

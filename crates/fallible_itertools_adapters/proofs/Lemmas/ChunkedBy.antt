@@ -72,14 +72,17 @@ module _ {A K E : Type 0} (eq : K → K → Bool) (h : A → Result K E) where
   grouped_of_group (k, []) l is = absurd is
   grouped_of_group (k, x ∷ xs) l is = ap (λ w. grouped_at None x w (items xs ++ l)) is.0 ∙ grouped_run k (x ∷ []) xs l (recursion_from_All (HasKey eq h k) xs is.1)
 
+  -- Law: The first items are a group, up to one whose key doesn't equal that of the first.
   pub chunked_by_of_first : (g : K × List A) (y : A) (j : K) (l : List (Result A E)) → IsGroup eq h g → h y ≡ Ok j → eq g.0 j ≡ false → chunked_by eq h (items g.1 ++ Ok y ∷ l) ≡ Ok g ∷ chunked_by eq h (Ok y ∷ l)
   unfolding chunked_by
   chunked_by_of_first g y j l is has differ = grouped_of_group g (Ok y ∷ l) is ∙ grouped_other g y (h y) l j has differ
 
+  -- Items of one key are one group at the end.
   pub chunked_by_of_last : (g : K × List A) → IsGroup eq h g → chunked_by eq h (items g.1) ≡ Ok g ∷ []
   unfolding chunked_by
   chunked_by_of_last g is = ap (λ l. grouped_from None l) (sym (append-nil (items g.1))) ∙ grouped_of_group g [] is
 
+  -- `chunked_by` makes nothing of an empty list.
   pub chunked_by_of_none : chunked_by eq h [] ≡ []
   unfolding chunked_by
   chunked_by_of_none = refl
@@ -134,6 +137,7 @@ module _ {A K : Type 0} (E : Type 0) (eq : K → K → Bool) (key : A → K) whe
   items_of_groups_from None (Err e ∷ l) = items_of_groups_from None l
   items_of_groups_from (Some g) (Err e ∷ l) = ap (λ (k : List A). g.1 ++ k) (items_of_groups_from None l)
 
+  -- The groups of a list joined are its items, if each item has a key.
   pub items_of_groups_of_chunked_by_are_items : (l : List (Result A E)) → items_of_groups (chunked_by eq key_answer l) ≡ items_listed l
   unfolding chunked_by
   items_of_groups_of_chunked_by_are_items l = items_of_groups_from None l

@@ -27,6 +27,7 @@ module _ {A E : Type 0} (h : A → A → OneOrBoth A E) where
   abbrev emitted_of : Option A → A → Transition (Option A × Unit {0}) A (Option E) E
   emitted_of held x = followed (as_function on_both) (coalesce_plan held x) tt
 
+  -- A failure parts a list: what stands before it is merged by itself, and so is what comes after it.
   pub coalesced_in_parts : (a : List (Result A E)) (e : E) (b : List (Result A E)) → coalesced h (a ++ Err e ∷ b) ≡ coalesced h a ++ Err e ∷ coalesced h b
   unfolding coalesced
   coalesced_in_parts a e b = parted_by_failure on_both coalesce_plan (λ held. held) (λ held. None) None (λ held. refl) held_one (coalesce_plan_buffers E) None a e b
@@ -43,6 +44,7 @@ module _ {A E : Type 0} (h : A → A → OneOrBoth A E) where
     coalesced_by_apart y x (Ok (Err both)) is = both_apart y x both is (keeps.as_they_are y x both is)
     coalesced_by_apart y x (Err e) is = tt
 
+    -- Law: The closure keeps each two adjacent results apart, if it hands what it keeps apart back as it is, and what it makes of the second of two and a later item is still apart from the first; unless a failure stands between.
     pub adjacent_coalesced_unmerged : (l : List (Result A E)) → AdjacentItems (λ x y. h x y ≡ Ok (Err (x, y))) (coalesced h l)
     unfolding coalesced
     adjacent_coalesced_unmerged l = adjacent_items_apart on_both coalesce_plan (λ held. held) (λ held. None) StaysApart (λ held. ⊤) at_item (λ held x good. tt) (λ held. tt) l None tt

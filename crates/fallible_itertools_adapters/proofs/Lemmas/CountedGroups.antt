@@ -78,6 +78,7 @@ module _ {A E : Type 0} (h : A → A → Result Bool E) where
     before_failure = λ y e l. refl;
   }
 
+  -- Without the numbers `deduped_by_with_count` is what `dedup_by` yields.
   pub items_of_deduped_by_with_count : (l : List (Result A E)) → mapped (λ p. Ok p.1) (deduped_by_with_count h l) ≡ deduped_by h l
   items_of_deduped_by_with_count l = items_of_counted h (deduped_by h) deduped_by_lists_firsts l
 
@@ -94,6 +95,7 @@ module _ {A E : Type 0} (eq : A → A → Bool) where
     before_failure = λ y e l. refl;
   }
 
+  -- Without the numbers `deduped_with_count` is what `dedup` yields.
   pub items_of_deduped_with_count : (l : List (Result A E)) → mapped (λ p. Ok p.1) (deduped_with_count eq l) ≡ deduped eq l
   unfolding deduped_with_count
   items_of_deduped_with_count l = items_of_counted (λ y x. Ok (eq y x)) (deduped eq) deduped_lists_firsts l
@@ -147,7 +149,7 @@ module _ {A E : Type 0} (eq : A → A → Bool) where
   counted_from_is_groups_counted None (Err e ∷ l) = ap (λ k. Err e ∷ k) (counted_from_is_groups_counted None l)
   counted_from_is_groups_counted (Some g) (Err e ∷ l) = ap (λ k. Ok (group_counted g) ∷ Err e ∷ k) (counted_from_is_groups_counted None l)
 
-  -- Each item is beside the number of items of the group that it begins.
+  -- Law: Each item of `deduped_with_count` is beside the number of items of the group that it begins, as `chunked_by` makes groups of equal items; a number above `usize::MAX` is that one.
   pub deduped_with_count_is_mapped_chunked_by : (l : List (Result A E)) → deduped_with_count eq l ≡ mapped (λ g. Ok (min (length g.1) (2 ^ 64 - 1), g.0)) (chunked_by eq (λ x. Ok x) l)
   unfolding deduped_with_count deduped_by_with_count chunked_by
   deduped_with_count_is_mapped_chunked_by l = counted_from_is_groups_counted None l

@@ -18,6 +18,7 @@ use Rattle.fallible_itertools_adapters.specs.declared.dedup.Dedup.{Dedup}
 module _ {A : Type 0} (E : Type 0) (eq : A → A → Bool) where
   -- ---- what it lists
 
+  -- A failure parts a list: what stands before it is deduped by itself, and so is what comes after it.
   pub deduped_in_parts : (a : List (Result A E)) (e : E) (b : List (Result A E)) → deduped eq (a ++ Err e ∷ b) ≡ deduped eq a ++ Err e ∷ deduped eq b
   unfolding deduped
   deduped_in_parts a e b = parted_by_failure (λ u. u) (dedup_plan eq) (λ held. held) (λ held. None) None (λ held. refl) held_one (dedup_plan_buffers E eq) None a e b
@@ -29,6 +30,7 @@ module _ {A : Type 0} (E : Type 0) (eq : A → A → Bool) where
   unless_same_apart y x true is = λ z after. after
   unless_same_apart y x false is = (is, λ z after. after)
 
+  -- Law: No item of `deduped` equals the next one, unless a failure stands between.
   pub deduped_differ : (l : List (Result A E)) → AdjacentItems (λ x y. eq x y ≡ false) (deduped eq l)
   unfolding deduped
   deduped_differ l = adjacent_items_apart (λ u. u) (dedup_plan eq) (λ held. held) (λ held. None) (λ x y. eq x y ≡ false) (λ held. ⊤) at_item (λ held x good. tt) (λ held. tt) l None tt

@@ -28,6 +28,7 @@ module _ {A E : Type 0} (h : A → A → Result Bool E) where
   abbrev emitted_of : Option A → A → Transition (Option A × Unit {0}) A (Option E) E
   emitted_of held x = followed (as_function on_both) (dedup_by_plan held x) tt
 
+  -- The same of `deduped_by`.
   pub deduped_by_in_parts : (a : List (Result A E)) (e : E) (b : List (Result A E)) → deduped_by h (a ++ Err e ∷ b) ≡ deduped_by h a ++ Err e ∷ deduped_by h b
   unfolding deduped_by
   deduped_by_in_parts a e b = parted_by_failure on_both dedup_by_plan (λ held. held) (λ held. None) None (λ held. refl) held_one (dedup_by_plan_buffers E) None a e b
@@ -40,6 +41,7 @@ module _ {A E : Type 0} (h : A → A → Result Bool E) where
   same_by_apart y x (Ok false) is = (is, λ z after. after)
   same_by_apart y x (Err e) is = λ z after. after
 
+  -- Law: The closure finds that each item of `deduped_by` differs from the next one, unless a failure stands between.
   pub adjacent_deduped_by_differ : (l : List (Result A E)) → AdjacentItems (λ x y. h x y ≡ Ok false) (deduped_by h l)
   unfolding deduped_by
   adjacent_deduped_by_differ l = adjacent_items_apart on_both dedup_by_plan (λ held. held) (λ held. None) FoundToDiffer (λ held. ⊤) at_item (λ held x good. tt) (λ held. tt) l None tt

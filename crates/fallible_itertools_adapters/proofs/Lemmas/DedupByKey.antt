@@ -22,6 +22,7 @@ use Rattle.fallible_itertools_adapters.specs.declared.dedup_by_key.DedupByKey.{D
 module _ {A K E : Type 0} (eq : K → K → Bool) (h : A → Result K E) where
   -- ---- what it lists
 
+  -- The same of `deduped_by_key`.
   pub deduped_by_key_in_parts : (a : List (Result A E)) (e : E) (b : List (Result A E)) → deduped_by_key eq h (a ++ Err e ∷ b) ≡ deduped_by_key eq h a ++ Err e ∷ deduped_by_key eq h b
   unfolding deduped_by_key
   deduped_by_key_in_parts a e b = parted_by_failure h (dedup_key_plan eq) keyed_item (λ held. None) None (λ held. refl) held_one (dedup_key_plan_buffers E eq) None a e b
@@ -48,6 +49,7 @@ module _ {A K E : Type 0} (eq : K → K → Bool) (h : A → Result K E) where
   keyed_apart None x (Ok k) is keyed = ((λ z after. absurd after), is)
   keyed_apart (Some p) x (Ok k) is keyed = unless_same_key_apart p x k (eq p.0 k) refl keyed is
 
+  -- Law: The key of no item of `deduped_by_key` equals that of the next one, unless a failure stands between.
   pub adjacent_deduped_by_key_differ : (l : List (Result A E)) → AdjacentItems Differ (deduped_by_key eq h l)
   unfolding deduped_by_key
   adjacent_deduped_by_key_differ l = adjacent_items_apart h (dedup_key_plan eq) keyed_item (λ held. None) Differ IsKeyed (λ held x keyed. (keyed_apart held x (h x) refl keyed).0) (λ held x keyed. (keyed_apart held x (h x) refl keyed).1) (λ held. tt) l None tt

@@ -48,6 +48,7 @@ module _ {A : Type 0} (E : Type 0) (eq : A → A → Bool) where
   own_key_alike None (Err e) = (refl, refl)
   own_key_alike (Some y) (Err e) = (refl, refl)
 
+  -- `deduped` is `deduped_by_key` with each item as its own key.
   pub deduped_is_deduped_by_key : (l : List (Result A E)) → deduped eq l ≡ deduped_by_key eq (λ x. Ok x) l
   unfolding deduped deduped_by_key
   deduped_is_deduped_by_key l = staged_alike stop_comes by_item by_own_key (λ p q. as_key p.0 ≡ q.0) (λ p q a same. subst (λ (k : Option (A × A)). MadeAlike (by_item (p.0, tt) a) (by_own_key (k, tt) a)) same (own_key_alike p.0 a)) l (None, tt) (None, tt) refl
@@ -115,6 +116,7 @@ module _ {A K : Type 0} (E : Type 0) (eq : K → K → Bool) (h : A → Result K
   keyed_from_is_firsts_of_grouped None (Err e ∷ l) = ap {B = List (Result A E)} (λ k. Err e ∷ k) (keyed_from_is_firsts_of_grouped None l) ∙ sym (firsts_of_failure e (grouped_from eq h None l))
   keyed_from_is_firsts_of_grouped (Some g) (Err e ∷ l) = ap {B = List (Result A E)} (λ k. Ok g.1 ∷ Err e ∷ k) (keyed_from_is_firsts_of_grouped None l) ∙ sym (ap {B = List (Result A E)} (λ k. Ok g.1 ∷ k) (firsts_of_failure e (grouped_from eq h None l))) ∙ sym (firsts_of_group g.0 g.1 g.2 (Err e ∷ grouped_from eq h None l))
 
+  -- Law: The items of `deduped_by_key` are the first ones of the groups that `chunked_by` makes.
   pub deduped_by_key_is_firsts_of_chunked_by : (l : List (Result A E)) → deduped_by_key eq h l ≡ firsts (chunked_by eq h l)
   unfolding deduped_by_key chunked_by
   deduped_by_key_is_firsts_of_chunked_by l = keyed_from_is_firsts_of_grouped None l

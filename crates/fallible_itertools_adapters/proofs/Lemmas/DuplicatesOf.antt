@@ -38,14 +38,17 @@ module _ {A E : Type 0} (eq : A → A → Bool) where
   failures_from came (Ok x ∷ l) = failures_of_second x _ (From (x ∷ came) l) ∙ failures_from (x ∷ came) l
   failures_from came (Err e ∷ l) = ap (λ k. e ∷ k) (failures_from came l)
 
+  -- The failures of `duplicates_of` are the list's.
   pub failures_of_duplicates : (l : List (Result A E)) → failures_listed (duplicates_of eq l) ≡ failures_listed l
   unfolding duplicates_of
   failures_of_duplicates l = failures_from [] l
 
+  -- `duplicates_of` makes nothing of an empty list.
   pub duplicates_of_none : duplicates_of {A = A} {E = E} eq [] ≡ []
   unfolding duplicates_of
   duplicates_of_none = refl
 
+  -- A failure at the end of the list is the last of its `duplicates_of`.
   pub duplicates_failure_last : (l : List (Result A E)) (e : E) → duplicates_of eq (l ++ Err e ∷ []) ≡ duplicates_of eq l ++ Err e ∷ []
   unfolding duplicates_of
   duplicates_failure_last l e = sieved_of_joined (second_of eq) l (Err e ∷ []) []
@@ -56,7 +59,7 @@ module _ {A E : Type 0} (eq : A → A → Bool) where
   last_or_not x false true before is = absurd cc
   last_or_not x false false before is = append-nil before
 
-  -- The last item is one more if exactly one before it equals it.
+  -- An item at the end of the list is the last of its `duplicates_of` if exactly one before it equals it, and else changes nothing.
   pub duplicates_item_last : (l : List (Result A E)) (x : A) → duplicates_of eq (l ++ Ok x ∷ []) ≡ cond (nat_eq (count_by (eq x) (items_listed l)) 1) (duplicates_of eq l ++ Ok x ∷ []) (duplicates_of eq l)
   unfolding duplicates_of
   duplicates_item_last l x = sieved_of_joined (second_of eq) l (Ok x ∷ []) [] ∙ last_or_not x _ _ (From [] l) (ap (λ (n : ℕ). nat_eq n 1) (count_by_of_came_after_is_sum (eq x) [] l ∙ omega arith))
@@ -113,7 +116,7 @@ module _ {A E : Type 0} (eq : A → A → Bool) (equivalence : IsEquivalence eq)
   is_listed_of_duplicates_from q came (Ok x ∷ l) = is_listed_of_second_of_equal q x came l (From eq (x ∷ came) l) (eq q x) (nat_eq (count_by (eq x) came) 1) refl refl (is_listed_of_duplicates_from q (x ∷ came) l)
   is_listed_of_duplicates_from q came (Err e ∷ l) = is_listed_of_duplicates_from q came l
 
-  -- One equal to q is listed exactly if two items or more equal q.
+  -- Law: An item is in `duplicates_of` exactly if two items of the list or more equal it.
   pub listed_where_twice : (l : List (Result A E)) (q : A) → Decides (is_member eq (items_listed (duplicates_of eq l)) q) (2 ≤ count_by (eq q) (items_listed l))
   unfolding duplicates_of
   listed_where_twice l q = let d = is_listed_of_duplicates_from q [] l in ((λ is. omega (arith, (d.0 is).1)), (λ h. d.1 (omega arith, omega (arith, h))))
@@ -135,6 +138,7 @@ module _ {A E : Type 0} (eq : A → A → Bool) (equivalence : IsEquivalence eq)
   distinct_from came (Ok x ∷ l) = is_distinct_of_second_of_equal x came l (nat_eq (count_by (eq x) came) 1) refl (distinct_from (x ∷ came) l)
   distinct_from came (Err e ∷ l) = distinct_from came l
 
+  -- Law: No item of `duplicates_of` equals another.
   pub duplicates_distinct : (l : List (Result A E)) → IsDistinct eq (items_listed (duplicates_of eq l))
   unfolding duplicates_of
   duplicates_distinct l = distinct_from [] l

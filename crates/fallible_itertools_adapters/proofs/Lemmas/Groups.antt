@@ -53,6 +53,7 @@ module _ {A K : Type 0} (E : Type 0) (eq : K → K → Bool) (h : A → Result K
   each_from None (Err e ∷ l) = each_from None l
   each_from (Some g) (Err e ∷ l) = (tt, each_from None l)
 
+  -- Law: The keys of adjacent groups differ, unless a failure stands between.
   pub adjacent_groups_differ : (l : List (Result A E)) → AdjacentItems Differ (chunked_by eq h l)
   unfolding chunked_by
   adjacent_groups_differ l = adjacent_items_of_each_next Differ (chunked_by eq h l) (each_from None l)
@@ -97,6 +98,7 @@ module _ {A K : Type 0} (E : Type 0) (eq : K → K → Bool) (h : A → Result K
   groups_from None (Err e ∷ l) held = groups_from None l tt
   groups_from (Some g) (Err e ∷ l) held = (held, groups_from None l tt)
 
+  -- The key of a group is that of its first item, and those of its other items equal it.
   pub items_of_chunked_by_are_groups : (l : List (Result A E)) → All (IsGroup eq h) (items_listed (chunked_by eq h l))
   unfolding chunked_by
   items_of_chunked_by_are_groups l = All-from_recursion (IsGroup eq h) (items_listed (chunked_by eq h l)) (groups_from None l tt)
@@ -131,6 +133,7 @@ module _ {A K : Type 0} (E : Type 0) (eq : K → K → Bool) (h : A → Result K
   grouped_from_equal_at_later_failed_key None (Err d ∷ before) x e l is = ap {B = List (Result (K × List A) E)} (λ r. Err d ∷ r) (grouped_from_equal_at_later_failed_key None before x e l is)
   grouped_from_equal_at_later_failed_key (Some g) (Err d ∷ before) x e l is = ap {B = List (Result (K × List A) E)} (λ r. Ok g ∷ Err d ∷ r) (grouped_from_equal_at_later_failed_key None before x e l is)
 
+  -- For `chunked_by` an item whose key fails is that failure in its place.
   pub chunked_by_of_failed_key_is_of_failure : (before : List (Result A E)) (x : A) (e : E) (l : List (Result A E)) → h x ≡ Err e → chunked_by eq h (before ++ Ok x ∷ l) ≡ chunked_by eq h (before ++ Err e ∷ l)
   unfolding chunked_by
   chunked_by_of_failed_key_is_of_failure before x e l is = grouped_from_equal_at_later_failed_key None before x e l is

@@ -35,26 +35,32 @@ module _ {A E : Type 0} where
 
   -- ---- its equations
 
+  -- Law: Between each two adjacent items stands the next of the separators h 0, h 1 and so on.
   pub interspersed_by_of_two : (h : ℕ → Result A E) (x y : A) (l : List (Result A E)) → interspersed_by h (Ok x ∷ Ok y ∷ l) ≡ Ok x ∷ h 0 ∷ interspersed_by (λ n. h (suc n)) (Ok y ∷ l)
   unfolding interspersed_by
   interspersed_by_of_two h x y l = ap (λ k. Ok x ∷ k) (before_rest_of_result_is_cons (h 0) _)
 
+  -- For `interspersed_by` a failure after an item stands in its place, and parts nothing.
   pub interspersed_by_past_failure : (h : ℕ → Result A E) (x : A) (e : E) (l : List (Result A E)) → interspersed_by h (Ok x ∷ Err e ∷ l) ≡ Ok x ∷ Err e ∷ drop 1 (interspersed_by h (Ok x ∷ l))
   unfolding interspersed_by
   interspersed_by_past_failure h x e l = refl
 
+  -- `interspersed_by` makes of an item alone that item.
   pub interspersed_by_of_one : (h : ℕ → Result A E) (x : A) → interspersed_by h (Ok x ∷ []) ≡ Ok x ∷ []
   unfolding interspersed_by
   interspersed_by_of_one h x = refl
 
+  -- For `interspersed_by` a failure that comes first stands first.
   pub interspersed_by_of_failure : (h : ℕ → Result A E) (e : E) (l : List (Result A E)) → interspersed_by h (Err e ∷ l) ≡ Err e ∷ interspersed_by h l
   unfolding interspersed_by
   interspersed_by_of_failure h e l = refl
 
+  -- `interspersed_by` makes nothing of an empty list.
   pub interspersed_by_of_none : (h : ℕ → Result A E) → interspersed_by h [] ≡ []
   unfolding interspersed_by
   interspersed_by_of_none h = refl
 
+  -- `interspersed s` is `interspersed_by` with s each time.
   pub interspersed_is_by_constant : (s : A) (l : List (Result A E)) → interspersed s l ≡ interspersed_by (λ n. Ok s) l
   unfolding interspersed
   interspersed_is_by_constant s l = refl

@@ -2,7 +2,7 @@
 use Rattle.std.specs.Prelude.{◌≡◌, Some, None, Result, Ok, Err, List, [], ◌∷◌, ◌⊎◌}
 use Rattle.std.proofs.Common.{refl, sym, ap, subst, inl, inr, ◌∙◌}
 use Rattle.fallible_iterator.specs.Traces.{Answered}
-use Rattle.fallible_iterator.specs.Making.{GivesMade, IsRefusal, IsToldOrRefused, ListsMade, RefusesNext}
+use Rattle.fallible_iterator.specs.Making.{AtRefusal, GivesMade, IsRefusal, IsToldOrRefused, ListsMade, RefusesNext}
 use Rattle.fallible_iterator.proofs.Lemmas.Making.{answer_told_is_never_end, told_or_refused_of_failure, failure_told, item_told, told_or_refused_of_refusal}
 use Rattle.std.specs.declared.alloc.AllocError.{AllocError}
 
@@ -29,8 +29,14 @@ module _ {S X B E C R : Type 0} (made : X → B → Type 0) (steps : S → Answe
   or_refuses_next_of_item y z l is same (inl (x, m, next)) = inl next
   or_refuses_next_of_item {c = c} y z l is same (inr (x, this, m, rest)) = inr (record { rest = l; lists = record { runs = rest }; same = is ∙ ap (λ w. answers c (w ∷ l)) this ∙ same x l m })
 
+  -- an item that comes where the list is used up was held before an allocation failure
+  refuses_next_after_last : (y : B) (t : S) → AtRefusal made steps from (Ok (Some y)) t ⊎ ◌≡◌ {A = Answered B E} (Ok (Some y)) (Ok None) → RefusesNext steps from t
+  refuses_next_after_last y t (inl (inl r)) = absurd (let e = r.1 in cc)
+  refuses_next_after_last y t (inl (inr h)) = h.4
+  refuses_next_after_last y t (inr is) = absurd cc
+
   made_from_here_at_item : {whole : R} {s t : S} {c d : C} (y : B) (l : List (Result X E)) → GivesMade made steps from s l → whole ≡ answers c l → steps s (Ok (Some y)) t → ((x : X) (k : List (Result X E)) → made x y → answers c (Ok x ∷ k) ≡ answers d k) → OrRefusesNext whole t d
-  made_from_here_at_item y [] gives is drawn same = absurd (let h = gives _ _ drawn in cc)
+  made_from_here_at_item {t = t} y [] gives is drawn same = inl (refuses_next_after_last y t (gives _ _ drawn))
   made_from_here_at_item {t = t} y (z ∷ l) gives is drawn same = or_refuses_next_of_item y z l is same (item_told made steps from z y t (gives _ _ drawn))
 
   after_item : {whole : R} {s t : S} {c d : C} (y : B) → OrRefusesNext whole s c → steps s (Ok (Some y)) t → ((x : X) (k : List (Result X E)) → made x y → answers c (Ok x ∷ k) ≡ answers d k) → OrRefusesNext whole t d
@@ -45,8 +51,13 @@ module _ {S X B E C R : Type 0} (made : X → B → Type 0) (steps : S → Answe
   failed_by_first e z l is (inl r) = inl r
   failed_by_first {c = c} e z l is (inr k) = inr (l, is ∙ ap (λ w. answers c (w ∷ l)) k.0)
 
+  refused_after_last : (e : E) (t : S) → AtRefusal made steps from (Err e) t ⊎ ◌≡◌ {A = Answered B E} (Err e) (Ok None) → IsRefusal from e
+  refused_after_last e t (inl (inl r)) = subst (IsRefusal from) (let q = r.1 in cc) r.2
+  refused_after_last e t (inl (inr h)) = absurd (let q = h.3 in cc)
+  refused_after_last e t (inr is) = absurd cc
+
   at_failure : {whole : R} {s t : S} {c : C} (e : E) (l : List (Result X E)) → GivesMade made steps from s l → whole ≡ answers c l → steps s (Err e) t → FailedBy whole c e
-  at_failure e [] gives is drawn = absurd (let h = gives _ _ drawn in cc)
+  at_failure {t = t} e [] gives is drawn = inl (refused_after_last e t (gives _ _ drawn))
   at_failure {t = t} e (z ∷ l) gives is drawn = failed_by_first e z l is (failure_told made steps from z e t (gives _ _ drawn))
 
   after_failure : {whole : R} {s t : S} {c : C} (e : E) → OrRefusesNext whole s c → steps s (Err e) t → FailedBy whole c e

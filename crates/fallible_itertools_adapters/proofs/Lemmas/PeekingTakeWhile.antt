@@ -171,6 +171,7 @@ if_some_lists_where_always_gives : {S X E : Type 0} (steps : S → Answered X E 
 if_some_lists_where_always_gives steps s None i = tt
 if_some_lists_where_always_gives steps s (Some l) i = record { runs = i }
 
-pub lists_rest : {S F X E : Type 0} {m : Contract S X E} {looks : S → X → S → Type 0} (k : LooksAhead m looks) (g : Mut F (Bor X × Unit {0}) (Result Bool E)) (s t : PeekingTakeWhile S F) (h : X → Result Bool E) (l : List (Result X E)) → Acts (call_by_reference g) s.accept h → Lists m.steps s.it l
+-- Law: What `PeekingTakeWhile` leaves: over a source that lists l, with a closure that acts as h, draws up to `Ok(None)` at a rejected item leave a source that lists that item and what comes after it.
+pub lists_rest_of_peeking_take_while : {S F X E : Type 0} {m : Contract S X E} {looks : S → X → S → Type 0} (k : LooksAhead m looks) (g : Mut F (Bor X × Unit {0}) (Result Bool E)) (s t : PeekingTakeWhile S F) (h : X → Result Bool E) (l : List (Result X E)) → Acts (call_by_reference g) s.accept h → Lists m.steps s.it l
     → Run (seen_as peeking_parts (peeking_contract m looks g)).steps s (map result_answer (taken_while h l) ++ end ∷ []) t → IfSome (rest_by_while h l) (λ rest. Lists m.steps t.it rest)
-lists_rest {m = m} {looks = looks} k g s t h l a i ran = if_some_lists_where_always_gives m.steps t.it (rest_by_while h l) (leaves_rest_of_taken_while k (call_by_reference g) s.accept h a l s.it (peeking_parts t) i.runs (run_of_viewed peeking_parts (peeking_contract m looks g).steps (map result_answer (taken_while h l) ++ end ∷ []) s t ran))
+lists_rest_of_peeking_take_while {m = m} {looks = looks} k g s t h l a i ran = if_some_lists_where_always_gives m.steps t.it (rest_by_while h l) (leaves_rest_of_taken_while k (call_by_reference g) s.accept h a l s.it (peeking_parts t) i.runs (run_of_viewed peeking_parts (peeking_contract m looks g).steps (map result_answer (taken_while h l) ++ end ∷ []) s t ran))

@@ -39,10 +39,12 @@ module _ {A E : Type 0} (h : A → A → Result Bool E) where
 
   -- ---- its equations
 
+  -- `deduped_by_with_count` makes nothing of an empty list.
   pub counted_of_none : deduped_by_with_count h [] ≡ []
   unfolding deduped_by_with_count
   counted_of_none = refl
 
+  -- `deduped_by_with_count` makes of one item that item beside 1.
   pub counted_of_one : (x : A) → deduped_by_with_count h (Ok x ∷ []) ≡ Ok (1, x) ∷ []
   unfolding deduped_by_with_count
   counted_of_one x = refl
@@ -57,14 +59,17 @@ module _ {A E : Type 0} (h : A → A → Result Bool E) where
   counted_from_one_more (Ok x ∷ l) n y = once_more_first n y x (h y x) l (λ m. counted_from_one_more l m y)
   counted_from_one_more (Err e ∷ l) n y = refl
 
+  -- Law: Of two items that are the same, `deduped_by_with_count` counts the second with the first.
   pub counted_of_same : (y x : A) (l : List (Result A E)) → h y x ≡ Ok true → deduped_by_with_count h (Ok y ∷ Ok x ∷ l) ≡ first_once_more (deduped_by_with_count h (Ok y ∷ l))
   unfolding deduped_by_with_count
   counted_of_same y x l is = counted_from_item (1, y) x (Ok true) l is ∙ counted_from_one_more l 1 y
 
+  -- Of two items that are not the same, `deduped_by_with_count` has the first beside 1.
   pub counted_of_other : (y x : A) (l : List (Result A E)) → h y x ≡ Ok false → deduped_by_with_count h (Ok y ∷ Ok x ∷ l) ≡ Ok (1, y) ∷ deduped_by_with_count h (Ok x ∷ l)
   unfolding deduped_by_with_count
   counted_of_other y x l is = counted_from_item (1, y) x (Ok false) l is
 
+  -- Where the closure fails on two items, `deduped_by_with_count` has the first and then the failure, in the place of the second.
   pub counted_of_failed : (y x : A) (e : E) (l : List (Result A E)) → h y x ≡ Err e → deduped_by_with_count h (Ok y ∷ Ok x ∷ l) ≡ Ok (1, y) ∷ Err e ∷ deduped_by_with_count h l
   unfolding deduped_by_with_count
   counted_of_failed y x e l is = counted_from_item (1, y) x (Err e) l is
@@ -77,15 +82,17 @@ module _ {A E : Type 0} (h : A → A → Result Bool E) where
   unfolding deduped_by_with_count
   counted_before_failure y e l = refl
 
-  -- What stands before a failure is counted by itself, and so is what comes after it.
+  -- A failure parts a list: what stands before it is counted by itself, and so is what comes after it.
   pub counted_in_parts : (a : List (Result A E)) (e : E) (b : List (Result A E)) → deduped_by_with_count h (a ++ Err e ∷ b) ≡ deduped_by_with_count h a ++ Err e ∷ deduped_by_with_count h b
   unfolding deduped_by_with_count
   counted_in_parts a e b = parted_by_failure compared_by count_plan (λ held. held) (λ held. None) None (λ held. refl) held_one (count_buffers E) None a e b
 
+-- `deduped_with_count` is `deduped_by_with_count` by the equality.
 pub deduped_with_count_is_by : {A E : Type 0} (eq : A → A → Bool) (l : List (Result A E)) → deduped_with_count eq l ≡ deduped_by_with_count (λ y x. Ok (eq y x)) l
 unfolding deduped_with_count
 deduped_with_count_is_by eq l = refl
 
+-- The same of `deduped_with_count`.
 pub deduped_with_count_in_parts : {A E : Type 0} (eq : A → A → Bool) (a : List (Result A E)) (e : E) (b : List (Result A E)) → deduped_with_count eq (a ++ Err e ∷ b) ≡ deduped_with_count eq a ++ Err e ∷ deduped_with_count eq b
 unfolding deduped_with_count
 deduped_with_count_in_parts eq a e b = counted_in_parts (λ y x. Ok (eq y x)) a e b

@@ -116,5 +116,5 @@ module _ {V S P X B L E : Type 0} (view : V → S × (P × Option L)) (steps : S
     at_refusal_within r t (inr w) = inr (w.0, w.1, w.2, w.3, λ z u step. w.4 z (view u) (each t z u step))
 
     pub gives_made_within : (l : List (Result Y E)) (v : V) → GivesUpTo steps comes meets made (AtRefusal made (stage_step comes meets steps) from) (view v) l → GivesMade made taken from v l
-    gives_made_within [] v g = λ r t w. g r (view t) (each v r t w)
+    gives_made_within [] v g = λ r t w. inr (g r (view t) (each v r t w))
     gives_made_within (y ∷ l) v g = λ r t w. elim (g r (view t) (each v r t w)) [ inl k ↦ inl (at_refusal_within r t k) | inr k ↦ inr (k.0, gives_made_within l t k.1) ]

@@ -1,11 +1,11 @@
--- What `StopAfter` lists.
-use Rattle.std.specs.Prelude.{◌≡◌, ℕ, zero, suc, ◌≤◌, List, [], ◌∷◌, length, Ok, Err}
+-- What `StopAfter` lists, and how much at most.
+use Rattle.std.specs.Prelude.{◌≡◌, ℕ, zero, suc, ◌+◌, ◌≤◌, List, [], ◌∷◌, length, Ok, Err}
 use Rattle.std.proofs.Common.{refl, sym, ap, subst, arith}
 use Rattle.fallible_iterator.specs.BothEnds.{failures_listed}
 use Rattle.fallible_iterator.specs.Traces.{Answered, Run, end, items_in}
 use Rattle.fallible_iterator.specs.Contract.{Contract, seen_as}
 use Rattle.fallible_iterator.specs.Exchange.{exchanged}
-use Rattle.fallible_iterator.specs.Lists.{AlwaysGives, EndsForGood, GivesForGood, Lists, ListsForGood}
+use Rattle.fallible_iterator.specs.Lists.{AlwaysGives, EndsForGood, GivesForGood, Lists, ListsForGood, taken}
 use Rattle.fallible_iterator.proofs.Lemmas.Lists.ForGood.{lists_for_good_seen}
 use Rattle.fallible_iterator.proofs.Lemmas.Lists.Passing.{lists_seen}
 use Rattle.fallible_itertools_adapters.specs.StopAfter.{stop_after_step, stop_after_parts, stop_after_contract, stopped_after}
@@ -57,3 +57,14 @@ lists_stopped {it = it} m s n k l parts i = lists_seen stop_after_parts (stop_af
 
 pub lists_for_good_stopped : {S A E : Type 0} {it : S} (m : Contract S A E) (s : StopAfter S) (n k : ℕ) (l : List (Result A E)) → stop_after_parts s ≡ (it, (n, k)) → n ≤ length (failures_listed l) → Lists m.steps it l → ListsForGood (seen_as stop_after_parts (stop_after_contract m)).steps s (stopped_after n l)
 lists_for_good_stopped {it = it} m s n k l parts few i = lists_for_good_seen stop_after_parts (stop_after_step m.steps) s parts refl (gives_for_good_stopped m.steps l it n k few i.runs)
+
+-- ---- how much at most
+
+-- of n items no more than these and m failures
+pub length_stopped_after_taken : {A E : Type 0} (m n : ℕ) (l : List (Result A E)) → length (stopped_after m (taken n l)) ≤ n + m
+unfolding stopped_after taken
+length_stopped_after_taken zero n l = omega arith
+length_stopped_after_taken (suc m) zero l = omega arith
+length_stopped_after_taken (suc m) (suc n) [] = omega arith
+length_stopped_after_taken (suc m) (suc n) (Ok x ∷ l) = omega (arith, length_stopped_after_taken (suc m) n l)
+length_stopped_after_taken (suc m) (suc n) (Err e ∷ l) = omega (arith, length_stopped_after_taken m (suc n) l)

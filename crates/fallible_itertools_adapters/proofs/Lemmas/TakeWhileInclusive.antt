@@ -38,19 +38,24 @@ module _ {X E : Type 0} (h : X → Result Bool E) where
   unfolding taken_while_inclusive
   taken_while_inclusive_of_item x v l is = ap (λ w. emitted_first ends_come (inclusive_by x w).0 (staged_from (inclusive_by x w).1 l)) is ∙ held x v l
 
+  -- An item that the predicate of `taken_while_inclusive` accepts comes, and then what is made of the rest.
   pub taken_while_inclusive_accepted : (x : X) (l : List (Result X E)) → h x ≡ Ok true → taken_while_inclusive h (Ok x ∷ l) ≡ Ok x ∷ taken_while_inclusive h l
   taken_while_inclusive_accepted x l is = taken_while_inclusive_of_item x (Ok true) l is
 
+  -- Law: An item that the predicate of `taken_while_inclusive` rejects comes last.
   pub taken_while_inclusive_rejected : (x : X) (l : List (Result X E)) → h x ≡ Ok false → taken_while_inclusive h (Ok x ∷ l) ≡ Ok x ∷ []
   taken_while_inclusive_rejected x l is = taken_while_inclusive_of_item x (Ok false) l is
 
+  -- Where the predicate of `taken_while_inclusive` fails, its failure stands in the item's place.
   pub taken_while_inclusive_failed : (x : X) (e : E) (l : List (Result X E)) → h x ≡ Err e → taken_while_inclusive h (Ok x ∷ l) ≡ Err e ∷ taken_while_inclusive h l
   taken_while_inclusive_failed x e l is = taken_while_inclusive_of_item x (Err e) l is
 
+  -- A failure of the list stands in its place in `taken_while_inclusive`.
   pub taken_while_inclusive_of_failure : (e : E) (l : List (Result X E)) → taken_while_inclusive h (Err e ∷ l) ≡ Err e ∷ taken_while_inclusive h l
   unfolding taken_while_inclusive
   taken_while_inclusive_of_failure e l = refl
 
+  -- `taken_while_inclusive` makes nothing of an empty list.
   pub taken_while_inclusive_of_none : taken_while_inclusive h [] ≡ []
   unfolding taken_while_inclusive
   taken_while_inclusive_of_none = refl

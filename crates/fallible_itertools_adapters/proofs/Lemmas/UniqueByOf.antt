@@ -40,16 +40,19 @@ module _ {A K E : Type 0} (eq : K → K → Bool) where
     failures_from (Ok x ∷ l) keys = by_key (λ t v. failures_listed (cons_option t.0 (From t.1 l)) ≡ failures_listed (v ∷ mapped h l)) keys x (h x) (λ k has is. failures_from l keys) (λ k has is. failures_from l (k ∷ keys)) (λ e has. ap (λ j. e ∷ j) (failures_from l keys))
     failures_from (Err e ∷ l) keys = ap (λ j. e ∷ j) (failures_from l keys)
 
+    -- The failures of `unique_by_key` are the list's, and those of the closure in the places of their items.
     pub failures_of_unique_by : (l : List (Result A E)) → failures_listed (unique_by_key eq h l) ≡ failures_listed (mapped h l)
     unfolding unique_by_key
     failures_of_unique_by l = failures_from l []
 
     -- ---- what comes last
 
+    -- `unique_by_key` makes nothing of an empty list.
     pub unique_by_of_empty_is_empty : unique_by_key eq h [] ≡ []
     unfolding unique_by_key
     unique_by_of_empty_is_empty = refl
 
+    -- A failure at the end of the list is the last of its `unique_by_key`.
     pub unique_by_keeps_last_failure : (l : List (Result A E)) (e : E) → unique_by_key eq h (l ++ Err e ∷ []) ≡ unique_by_key eq h l ++ Err e ∷ []
     unfolding unique_by_key
     unique_by_keeps_last_failure l e = sieved_of_joined _ l (Err e ∷ []) []
@@ -59,6 +62,7 @@ module _ {A K E : Type 0} (eq : K → K → Bool) where
     unfolding unique_by_key
     unique_by_of_last_item l x v is = sieved_of_joined _ l (Ok x ∷ []) [] ∙ ap (λ (v : Result K E). From [] l ++ cons_option (by_key_made eq (keys_after [] l) x v).0 []) is
 
+    -- An item at the end of the list on which the closure fails is replaced by that failure in `unique_by_key`.
     pub unique_by_keeps_last_key_failure : (l : List (Result A E)) (x : A) (e : E) → h x ≡ Err e → unique_by_key eq h (l ++ Ok x ∷ []) ≡ unique_by_key eq h l ++ Err e ∷ []
     unique_by_keeps_last_key_failure l x e is = unique_by_of_last_item l x (Err e) is
 
@@ -70,6 +74,7 @@ mapped_from eq h [] keys = refl
 mapped_from {A = A} {K = K} {E = E} eq h (Ok x ∷ l) keys = by_key eq (λ t v. mapped h (cons_option t.0 (From eq h t.1 l)) ≡ From eq (λ k. Ok k) keys (v ∷ mapped h l)) keys x (h x) (λ k has is. rw is (mapped_from eq h l keys)) (λ k has is. rw (is, has) (ap (λ j. Ok k ∷ j) (mapped_from eq h l (k ∷ keys)))) (λ e has. ap (λ j. Err e ∷ j) (mapped_from eq h l keys))
 mapped_from eq h (Err e ∷ l) keys = ap (λ j. Err e ∷ j) (mapped_from eq h l keys)
 
+-- Law: The keys of the items of `unique_by_key` are those of the list's items, each that equals none before it, and the failures, in their order: what `unique_of` is of the list with the keys in the items' places.
 pub keys_of_unique_by_are_unique_of_keys : {A K E : Type 0} (eq : K → K → Bool) (h : A → Result K E) (l : List (Result A E)) → mapped h (unique_by_key eq h l) ≡ unique_of eq (mapped h l)
 unfolding unique_by_key unique_of
 keys_of_unique_by_are_unique_of_keys eq h l = mapped_from eq h l []
@@ -113,7 +118,7 @@ module _ {K : Type 0} (eq : K → K → Bool) (equivalence : IsEquivalence eq) w
     last_or_not x k keys false true before is = absurd cc
     last_or_not x k keys false false before is = refl
 
-    -- The last item is one more if no key before it equals its own.
+    -- An item at the end of the list is the last of its `unique_by_key` if its key equals none before it, and else changes nothing.
     pub unique_by_keeps_last_item_of_new_key : (l : List (Result A E)) (x : A) (k : K) → h x ≡ Ok k → unique_by_key eq h (l ++ Ok x ∷ []) ≡ cond (is_member eq (items_listed (mapped h l)) k) (unique_by_key eq h l) (unique_by_key eq h l ++ Ok x ∷ [])
     unique_by_keeps_last_item_of_new_key l x k is = unique_by_of_last_item eq h l x (Ok k) is ∙ last_or_not x k (keys_after eq h [] l) (is_member eq (keys_after eq h [] l) k) _ (unique_by_key eq h l) (member_after_is_or l [] k)
 
@@ -136,6 +141,7 @@ module _ {K : Type 0} (eq : K → K → Bool) (equivalence : IsEquivalence eq) w
     find_from (Ok x ∷ l) keys q unseen = by_key eq (λ t v. find (has_key eq h q) (items_listed (cons_option t.0 (From eq h t.1 l))) ≡ cond (is_key eq q v) (Some x) (find (has_key eq h q) (items_listed l))) keys x (h x) (λ k has is. find_from l keys q unseen ∙ find_is_same_past_seen_key q x k keys (items_listed l) (eq q k) refl is unseen) (λ k has is. ap (λ (v : Result K E). cond (is_key eq q v) (Some x) (find (has_key eq h q) (items_listed (From eq h (k ∷ keys) l)))) has ∙ found_first_or_rest_agrees q x k keys _ _ (eq q k) refl unseen (find_from l (k ∷ keys) q)) (λ e has. find_from l keys q unseen)
     find_from (Err e ∷ l) keys q unseen = find_from l keys q unseen
 
+    -- The first item of the list that has any given key is still the first in `unique_by_key`.
     pub find_in_unique_by : (l : List (Result A E)) (k : K) → find (has_key eq h k) (items_listed (unique_by_key eq h l)) ≡ find (has_key eq h k) (items_listed l)
     unfolding unique_by_key
     find_in_unique_by l k = find_from l [] k refl
@@ -166,9 +172,11 @@ module _ {K : Type 0} (eq : K → K → Bool) (equivalence : IsEquivalence eq) w
     distinct_from (Ok x ∷ l) keys = by_key eq (λ t v. IsDistinct eq (items_listed (cons_option t.0 (FromKeys t.1 l)))) keys x (Ok x) (λ k has is. distinct_from l keys) (λ k has is. ((let same : x ≡ k = (let j = has in cc) in rw same ((all_unseen_rest k keys (items_listed (FromKeys (k ∷ keys) l)) (all_unseen_from l (k ∷ keys))).1)), distinct_from l (k ∷ keys))) (λ e has. absurd cc)
     distinct_from (Err e ∷ l) keys = distinct_from l keys
 
+    -- Law: No item of `unique_of` equals another.
     pub unique_distinct : (l : List (Result K E)) → IsDistinct eq (items_listed (unique_of eq l))
     unfolding unique_of unique_by_key
     unique_distinct l = distinct_from l []
 
+  -- No key of an item of `unique_by_key` equals another.
   pub keys_of_unique_by_are_distinct : {A E : Type 0} (h : A → Result K E) (l : List (Result A E)) → IsDistinct eq (items_listed (mapped h (unique_by_key eq h l)))
   keys_of_unique_by_are_distinct {E = E} h l = subst (λ (k : List (Result K E)). IsDistinct eq (items_listed k)) (sym (keys_of_unique_by_are_unique_of_keys eq h l)) (unique_distinct (mapped h l))

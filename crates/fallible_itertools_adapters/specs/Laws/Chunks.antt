@@ -1,5 +1,6 @@
 -- The contract of `Chunks` is lawful where the source's is.
-use Rattle.std.specs.Prelude.{ℕ, ltb, Bool, true, false, Option, Some, None, Ok, Err, ◌+◌}
+use Rattle.std.specs.Prelude.{ℕ, ltb, max, Bool, true, false, Option, Some, None, Ok, Err, ◌+◌}
+use Rattle.std.specs.Int.{div_ceil}
 use Rattle.std.proofs.Common.{refl, arith}
 use Rattle.fallible_iterator.specs.Contract.{Contract, Lawful}
 use Rattle.fallible_iterator.specs.Hints.{fitting_sum}
@@ -7,12 +8,12 @@ use Rattle.fallible_iterator.specs.Laws.Hints.Joining.{if_some_fitting_sum_at_le
 use Rattle.fallible_iterator.specs.Sound.{HintsHold}
 use Rattle.fallible_itertools_adapters.specs.Batch.{Put, held_without_item}
 use Rattle.fallible_itertools_adapters.specs.BeforeStop.{before_stop, held_one, held_sound}
-use Rattle.fallible_itertools_adapters.specs.Chunks.{batch_at, batch_by, batch_held, chunks_contract, chunks_hint_plan, chunks_plan, chunks_stops, puts, vec_count, begun, room_left, batches_hint}
+use Rattle.fallible_itertools_adapters.specs.Chunks.{batch_at, batch_by, batch_held, chunks_contract, chunks_hint_plan, chunks_plan, chunks_stops, puts, vec_count, batches_hint}
 use Rattle.fallible_itertools_adapters.specs.Laws.Plan.{ItemWeighs, before_stop_weighs, is_stage_plan, lawful_plan}
 use Rattle.fallible_itertools_adapters.specs.Plan.{plan_meets, plan_hint}
 use Rattle.fallible_itertools_adapters.specs.Staging.{IsStage, stop_comes, stage_step}
 use Rattle.fallible_itertools_adapters.specs.Laws.BeforeStop.{held_hold_by_makes}
-use Rattle.fallible_itertools_adapters.specs.Laws.ChunksHints.{EnoughBegun, chunks_make_no_fewer, held_one_and_begun_at_most}
+use Rattle.fallible_itertools_adapters.specs.Laws.ChunksHints.{EnoughBegun, chunks_make_no_fewer, batches_at_most}
 use Rattle.fallible_itertools_adapters.specs.Laws.StagingHints.{makes_at_most_items_and_held}
 use Rattle.std.specs.declared.alloc.AllocError.{AllocError}
 
@@ -35,7 +36,7 @@ module _ {A E : Type 0} (from : AllocError → E → Type 0) where
   is_stage_chunks = is_stage_plan stop_comes 1 batch_held (puts from) (chunks_plan vec_count) chunks_stops (λ h x put. batch_by_weighs E vec_count h put) (λ h stop. before_stop_weighs batch_held h (h.0, None) h.1 stop refl refl)
 
   chunks_hold : {S : Type 0} {m : Contract S A E} → Lawful m → HintsHold (λ p r q. stage_step stop_comes (plan_meets (puts {A = A} from) (chunks_plan vec_count) chunks_stops) m.steps p r q) (plan_hint m chunks_hint_plan) (held_sound m batches_hint)
-  chunks_hold {m = m} l = held_hold_by_makes (puts from) (chunks_plan vec_count) chunks_stops (λ h n. n + batch_held h) (λ h low n. EnoughBegun from h.0 h.1 low n) (λ h k. held_one h.1 + begun h.0 (room_left h.0 h.1) k) (λ h o. fitting_sum o (Some (held_one h.1))) (λ h o n le. if_some_fitting_sum_at_least_both o (Some (held_one h.1)) n (held_one h.1) (n + held_one h.1) (omega arith) le (omega arith)) (λ h low n few. held_one_and_begun_at_most from h.0 low n h.1 few)
+  chunks_hold {m = m} l = held_hold_by_makes (puts from) (chunks_plan vec_count) chunks_stops (λ h n. n + batch_held h) (λ h low n. EnoughBegun from h.0 h.1 low n) (λ h k. div_ceil k (max h.0 1)) (λ h o. fitting_sum o (Some (held_one h.1))) (λ h o n le. if_some_fitting_sum_at_least_both o (Some (held_one h.1)) n (held_one h.1) (n + held_one h.1) (omega arith) le (omega arith)) (λ h low n few. batches_at_most from h.0 low n h.1 few)
       (makes_at_most_items_and_held stop_comes (plan_meets (puts from) (chunks_plan vec_count) chunks_stops) (λ p. batch_held p.0) is_stage_chunks) (chunks_make_no_fewer from) m l.hold
 
   pub lawful_chunks : {S : Type 0} {m : Contract S A E} → Lawful m → Lawful (chunks_contract from m)

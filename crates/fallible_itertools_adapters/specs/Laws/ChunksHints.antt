@@ -1,11 +1,13 @@
 -- The hint of `Chunks`: how many batches come at least, and at most.
-use Rattle.std.specs.Prelude.{◌≡◌, ℕ, ◌+◌, ◌-◌, ◌*◌, ◌/◌, ◌≤◌, ◌<◌, suc, max, cond, leb, ltb, Bool, true, false, Option, Some, None, Ok, Err, [], ◌∷◌, length, vec_items}
+use Rattle.std.specs.Prelude.{◌≡◌, ℕ, ◌+◌, ◌-◌, ◌*◌, ◌≤◌, ◌<◌, suc, max, ltb, Bool, true, false, Option, Some, None, Ok, Err, [], ◌∷◌, length, vec_items}
 use Rattle.std.proofs.Common.{refl, sym, ap, subst, arith, length-append, ◌∙◌}
-use Rattle.std.proofs.lemmas.Bool.{leb-false, ltb-true, ltb-false}
-use Rattle.std.proofs.Math.Nat.{div-lt_iff_lt-mul, suc-mul}
+use Rattle.std.proofs.lemmas.Bool.{ltb-true, ltb-false}
+use Rattle.std.proofs.Math.Nat.{lt_of_mul-lt-mul_right, suc-mul}
+use Rattle.std.proofs.lemmas.Grind.{div_ceil_times}
+use Rattle.std.specs.Int.{div_ceil}
 use Rattle.fallible_itertools_adapters.specs.Batch.{Grown, Put, Puts, held_without_item}
-use Rattle.fallible_itertools_adapters.specs.BeforeStop.{before_stop, held_one}
-use Rattle.fallible_itertools_adapters.specs.Chunks.{batch_at, batch_by, begun, chunks_plan, chunks_stops, puts, room_left, vec_count}
+use Rattle.fallible_itertools_adapters.specs.BeforeStop.{before_stop}
+use Rattle.fallible_itertools_adapters.specs.Chunks.{batch_at, batch_by, chunks_plan, chunks_stops, puts, vec_count}
 use Rattle.fallible_itertools_adapters.specs.Laws.StagingHints.{EmittedFew, MakesNoFewer}
 use Rattle.fallible_itertools_adapters.specs.Plan.{IsTransition, Transition, plan_meets}
 use Rattle.fallible_itertools_adapters.specs.Staging.{Emitted, stop_comes}
@@ -15,20 +17,20 @@ use Rattle.std.specs.declared.alloc.AllocError.{AllocError}
 
 -- ---- numbers
 
-begun_cond_at_most : (n room k m : ℕ) (b : Bool) → leb k room ≡ b → k ≤ room + m * max n 1 → cond b 0 (1 + (k - 1 - room) / max n 1) ≤ m
-begun_cond_at_most n room k m true is few = omega arith
-begun_cond_at_most n room k m false is few = let more : room < k = leb-false k room is in let below : k - 1 - room < m * max n 1 = omega (arith, more, few) in
-    let some : 0 < max n 1 = omega arith in let less : (k - 1 - room) / max n 1 < m = (div-lt_iff_lt-mul {k = max n 1} {x = k - 1 - room} {y = m} some).1 below in omega (arith, less)
+-- as many items as m batches of n have make at most m batches
+div_ceil_at_most : (n k m : ℕ) → k ≤ m * max n 1 → div_ceil k (max n 1) ≤ m
+div_ceil_at_most n k m few = let some : 0 < max n 1 = omega arith in let below : div_ceil k (max n 1) * max n 1 < k + max n 1 = (div_ceil_times k (max n 1) some).1 in let more : suc m * max n 1 ≡ m * max n 1 + max n 1 = suc-mul m (max n 1) in
+    let fewer : div_ceil k (max n 1) < suc m = lt_of_mul-lt-mul_right (max n 1) (omega (arith, below, more, few)) in omega (arith, fewer)
 
--- where the items fit into the room and into m batches of n, they begin at most m
-begun_at_most : (n room k m : ℕ) → k ≤ room + m * max n 1 → begun n room k ≤ m
-begun_at_most n room k m few = begun_cond_at_most n room k m (leb k room) refl few
+-- how many items the batch that is held takes yet, of which the next one is in any case one
+abbrev room_left : {A : Type 0} → ℕ → Vec A Global → ℕ
+room_left n v = max 1 (n - vec_count v)
 
 module _ {A E : Type 0} (from : AllocError → E → Type 0) where
   -- so many items are enough for m batches and no more, with the one that is held
   abbrev pub EnoughBegun : ℕ → Option (Vec A Global) → ℕ → ℕ → Type 0
   EnoughBegun n None low m = low ≤ m * max n 1
-  EnoughBegun n (Some v) low m = (k : ℕ) × (m ≡ suc k) × (low ≤ room_left n (Some v) + k * max n 1)
+  EnoughBegun n (Some v) low m = (k : ℕ) × (m ≡ suc k) × (low ≤ room_left n v + k * max n 1)
 
   -- a batch that is yielded with the item, and one that is held with it
   enough_begun_where_kept : (n low m : ℕ) (held : Option (Vec A Global)) (x : A) (w : Vec A Global) → Grown held x w → n ≤ length (vec_items w) → low - 1 ≤ m * max n 1 → EnoughBegun n held low (suc m)
@@ -77,6 +79,7 @@ module _ {A E : Type 0} (from : AllocError → E → Type 0) where
     at_failure = λ p e emitted q low w. few_of_transition p.0 (chunks_stops p.0 (Some e)) emitted q.0 low 0 w.0 refl (few_before_failure p.0.1 e _ _);
   }
 
-  pub held_one_and_begun_at_most : (n low m : ℕ) (held : Option (Vec A Global)) → EnoughBegun n held low m → held_one held + begun n (room_left n held) low ≤ m
-  held_one_and_begun_at_most n low m None few = let k : begun n 0 low ≤ m = begun_at_most n 0 low m (omega (arith, few)) in omega (arith, k)
-  held_one_and_begun_at_most n low m (Some v) (k, at, few) = let j : begun n (room_left n (Some v)) low ≤ k = begun_at_most n (room_left n (Some v)) low k few in omega (arith, j, at)
+  pub batches_at_most : (n low m : ℕ) (held : Option (Vec A Global)) → EnoughBegun n held low m → div_ceil low (max n 1) ≤ m
+  batches_at_most n low m None few = div_ceil_at_most n low m few
+  batches_at_most n low m (Some v) (k, at, few) = let more : suc k * max n 1 ≡ k * max n 1 + max n 1 = suc-mul k (max n 1) in let room : room_left n v ≤ max n 1 = omega arith in
+      subst (λ (j : ℕ). div_ceil low (max n 1) ≤ j) (sym at) (div_ceil_at_most n low (suc k) (omega (arith, room, more, few)))

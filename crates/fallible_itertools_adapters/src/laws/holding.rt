@@ -1,37 +1,14 @@
 // The laws of the adapters that buffer.
-ghost use Rattle.std.specs.Prelude.{◌≡◌, ℕ, ◌++◌, ◌∷◌, Bool, Option, Some, true, false, List, Result, Ok, Err, [], map};
-ghost use Rattle.fallible_iterator.specs.Lists.{filter_mapped, items, nth_of};
-ghost use Rattle.fallible_itertools_adapters.specs.Adjacent.{AdjacentItems, HaveKeys};
-ghost use Rattle.fallible_itertools_adapters.specs.BeforeStop.{HintsPastFailure, hint_unless_end};
-ghost use Rattle.fallible_itertools_adapters.specs.ChunkBy.{chunked_by};
-ghost use Rattle.fallible_itertools_adapters.specs.Coalesce.{KeepsApart, OneOrBoth, coalesced};
+ghost use Rattle.std.specs.Prelude.{◌≡◌, ◌++◌, ◌∷◌, Bool, true, false, List, Result, Ok, Err, [], map};
+ghost use Rattle.fallible_itertools_adapters.specs.Coalesce.{OneOrBoth, coalesced};
 ghost use Rattle.fallible_itertools_adapters.specs.DedupBy.{deduped_by};
 ghost use Rattle.fallible_itertools_adapters.specs.DedupByKey.{deduped_by_key};
 ghost use Rattle.fallible_itertools_adapters.specs.Dedup.{deduped};
-ghost use Rattle.fallible_itertools_adapters.specs.Plan.{HintPlan, plan_hint};
-ghost use Rattle.fallible_itertools_adapters.specs.Staging.{stage_meets, stage_step, stop_comes};
 ghost use Rattle.fallible_itertools_adapters.specs.WithPosition.{positioned};
 ghost use Rattle.fallible_itertools_adapters.specs.declared.with_position.Position.TheVariants.{First, Last, Middle, Only};
 
-use crate::staging::{Stage, Stop};
-use fallible_iterator::FallibleIterator;
-
-/// Where a failure is due, each hint of an adapter that buffers, whose hint is by `hint_unless_end`, is one of what comes after it.
-pub fn law_hints_past_failure<
-    I: FallibleIterator,
-    H,
-    F,
-    G: Stage<(H, F), I::Item, I::Error, Due = Stop<I::Error>>,
->()
-where
-    ensures { (stage : G) (hint : H → HintPlan) (s : I × ((H × F) × Option (Option I.Error)))
-        (e : I.Error) → s.1.1 ≡ Some (Some e)
-        → HintsPastFailure (stage_step {B = G.Kept} stop_comes
-        (stage_meets (G.items stage) (G.stops stage)) I.contract.steps)
-        (plan_hint I.contract (λ h due. hint_unless_end (hint h) due)) s e }
-{}
-
-/// Of two equal items that stand next to each other the first one is kept. A failure stands in its place. So no item equals the next one, unless a failure stands between. Each item is its own key, as `deduped_by_key` has it. A failure parts a list: what stands before it is deduped by itself, and so is what comes after it.
+/// Of two equal items that stand next to each other the first one is kept. A failure stands in its place.
+#[tactic(auto, unfolding(crate::specs::Dedup::deduped))]
 pub fn law_deduped<T: PartialEq, E>()
     ensures none { deduped T.eq {E = E} [] ≡ [] }
     ensures one { (y : T) → deduped T.eq {E = E} (Ok y ∷ []) ≡ Ok y ∷ [] }
@@ -43,15 +20,10 @@ pub fn law_deduped<T: PartialEq, E>()
         → deduped T.eq (Err e ∷ l) ≡ Err e ∷ deduped T.eq l }
     ensures before_failure { (y : T) (e : E) (l : List (Result T E))
         → deduped T.eq (Ok y ∷ Err e ∷ l) ≡ Ok y ∷ Err e ∷ deduped T.eq l }
-    ensures parts { (a : List (Result T E)) (e : E) (b : List (Result T E))
-        → deduped T.eq (a ++ Err e ∷ b) ≡ deduped T.eq a ++ Err e ∷ deduped T.eq b }
-    ensures adjacent { (l : List (Result T E))
-        → AdjacentItems (λ x y. T.eq x y ≡ false) (deduped T.eq l) }
-    ensures by_key { (l : List (Result T E))
-        → deduped T.eq l ≡ deduped_by_key T.eq (λ x. Ok x) l }
 {}
 
-/// Two items that the closure merges are the one that it makes of them. Of two that it keeps apart the first one is kept, and the second one goes on. If the closure fails on two, both are lost, and its failure comes. A failure parts a list: what stands before it is merged by itself, and so is what comes after it. The closure keeps each two adjacent results apart, if it hands what it keeps apart back as it is, and what it makes of the second of two and a later item is still apart from the first; unless a failure stands between.
+/// Two items that the closure merges are the one that it makes of them. Of two that it keeps apart the first one is kept, and the second one goes on. If the closure fails on two, both are lost, and its failure comes. A failure of the list stands in its place.
+#[tactic(auto, unfolding(crate::specs::Coalesce::coalesced))]
 pub fn law_coalesced<T, E>()
     ensures none { (h : T → T → OneOrBoth T E) → coalesced h [] ≡ [] }
     ensures one { (h : T → T → OneOrBoth T E) (y : T) → coalesced h (Ok y ∷ []) ≡ Ok y ∷ [] }
@@ -65,13 +37,10 @@ pub fn law_coalesced<T, E>()
         → coalesced h (Err e ∷ l) ≡ Err e ∷ coalesced h l }
     ensures before_failure { (h : T → T → OneOrBoth T E) (y : T) (e : E) (l : List (Result T E))
         → coalesced h (Ok y ∷ Err e ∷ l) ≡ Ok y ∷ Err e ∷ coalesced h l }
-    ensures parts { (h : T → T → OneOrBoth T E) (a : List (Result T E)) (e : E) (b : List (Result T E))
-        → coalesced h (a ++ Err e ∷ b) ≡ coalesced h a ++ Err e ∷ coalesced h b }
-    ensures adjacent { (h : T → T → OneOrBoth T E) (l : List (Result T E)) → KeepsApart h
-        → AdjacentItems (λ x y. h x y ≡ Ok (Err (x, y))) (coalesced h l) }
 {}
 
-/// Of two items that the closure finds the same the first one is kept. If the closure fails on two, the first one is kept, and its failure stands in the place of the second one. A failure parts a list: what stands before it is deduped by itself, and so is what comes after it. The closure finds that each item differs from the next one, unless a failure stands between.
+/// Of two items that the closure finds the same the first one is kept. If the closure fails on two, the first one is kept, and its failure stands in the place of the second one. A failure of the list stands in its place.
+#[tactic(auto, unfolding(crate::specs::DedupBy::deduped_by))]
 pub fn law_deduped_by<T, E>()
     ensures none { (h : T → T → Result Bool E) → deduped_by h [] ≡ [] }
     ensures one { (h : T → T → Result Bool E) (y : T) → deduped_by h (Ok y ∷ []) ≡ Ok y ∷ [] }
@@ -85,13 +54,10 @@ pub fn law_deduped_by<T, E>()
         → deduped_by h (Err e ∷ l) ≡ Err e ∷ deduped_by h l }
     ensures before_failure { (h : T → T → Result Bool E) (y : T) (e : E) (l : List (Result T E))
         → deduped_by h (Ok y ∷ Err e ∷ l) ≡ Ok y ∷ Err e ∷ deduped_by h l }
-    ensures parts { (h : T → T → Result Bool E) (a : List (Result T E)) (e : E) (b : List (Result T E))
-        → deduped_by h (a ++ Err e ∷ b) ≡ deduped_by h a ++ Err e ∷ deduped_by h b }
-    ensures adjacent { (h : T → T → Result Bool E) (l : List (Result T E))
-        → AdjacentItems (λ x y. h x y ≡ Ok false) (deduped_by h l) }
 {}
 
-/// Of two items that stand next to each other and have equal keys the first one is kept. Where the closure fails, its failure stands in the place of the item. So the key of no item equals that of the next one, unless a failure stands between. The items are the first ones of the groups that `chunked_by` makes. A failure parts a list: what stands before it is deduped by itself, and so is what comes after it.
+/// Of two items that stand next to each other and have equal keys the first one is kept. Where the closure fails, its failure stands in the place of the item. A failure of the list stands in its place.
+#[tactic(auto, unfolding(crate::specs::DedupByKey::deduped_by_key))]
 pub fn law_deduped_by_key<T, K: PartialEq, E>()
     ensures none { (h : T → Result K E) → deduped_by_key K.eq h [] ≡ [] }
     ensures one { (h : T → Result K E) (y : T) (k : K) → h y ≡ Ok k
@@ -109,14 +75,6 @@ pub fn law_deduped_by_key<T, K: PartialEq, E>()
         → deduped_by_key K.eq h (Ok y ∷ Ok x ∷ l) ≡ Ok y ∷ Err e ∷ deduped_by_key K.eq h l }
     ensures failure { (h : T → Result K E) (e : E) (l : List (Result T E))
         → deduped_by_key K.eq h (Err e ∷ l) ≡ Err e ∷ deduped_by_key K.eq h l }
-    ensures parts { (h : T → Result K E) (a : List (Result T E)) (e : E) (b : List (Result T E))
-        → deduped_by_key K.eq h (a ++ Err e ∷ b)
-        ≡ deduped_by_key K.eq h a ++ Err e ∷ deduped_by_key K.eq h b }
-    ensures adjacent { (h : T → Result K E) (l : List (Result T E))
-        → AdjacentItems (HaveKeys h (λ k j. K.eq k j ≡ false)) (deduped_by_key K.eq h l) }
-    ensures groups { (h : T → Result K E) (l : List (Result T E))
-        → deduped_by_key K.eq h l
-        ≡ filter_mapped (λ g. nth_of 0 (items g.1)) (chunked_by K.eq h l) }
 {}
 
 /// An item alone is `Only`; of several items the first is `First`, the last is `Last`, and the others are `Middle`. Nothing is made of an empty list. A failure parts a list: the items before it have their positions by themselves, and so do those after it.

@@ -1,38 +1,29 @@
--- What joins two sources and holds at most one item of each: its calls, and what it lists.
-use Rattle.std.specs.Prelude.{ℕ, ◌≡◌, ◌-◌, ◌≤◌, ◌⊎◌, Bool, true, false, cond, List, [], ◌∷◌, Some, None, Option, Result, Ok, Err}
-use Rattle.std.specs.Result.{IsErrAnd}
-use Rattle.std.specs.declared.cmp.Ordering.{Ordering}
-use Rattle.std.specs.declared.cmp.Ordering.TheVariants.{Less, Equal, Greater}
+-- What joins two sources: what it lists, and a fold of both sides.
+use Rattle.std.specs.Prelude.{Bool, false, ℕ, ◌≡◌, ◌⊎◌, ◌-◌, ◌≤◌, List, [], ◌∷◌, Some, None, Option, Result, Ok, Err, ⊤}
 use Rattle.std.proofs.Common.{refl, sym, ap, subst, ◌∙◌, arith, inl, inr}
 use Rattle.fallible_iterator.specs.Traces.{Answered, Run, item, failure, end}
 use Rattle.fallible_iterator.specs.Contract.{Contract, Lawful}
-use Rattle.fallible_iterator.specs.Folds.{CallableDriving, Driven}
-use Rattle.fallible_iterator.proofs.Lemmas.Folds.{driven_by_item_first, driven_end, driven_failure, driven_of_first_break, holds_at_first_turn, holds_each_turn_after_item}
-use Rattle.fallible_iterator.proofs.Lemmas.Loops.{CountsDown}
-use Rattle.std.specs.declared.ops.ControlFlow.{ControlFlow}
-use Rattle.std.specs.declared.ops.ControlFlow.TheVariants.{Continue, Break}
 use Rattle.fallible_iterator.specs.Cutting.Fuse.{fuse_parts}
+use Rattle.fallible_iterator.specs.Folds.{CallableDriving, Driven}
 use Rattle.fallible_iterator.specs.Lists.{ActsWith, GivesForGood, Lists, ListsForGood, result_answer}
 use Rattle.fallible_iterator.proofs.Lemmas.Cutting.Fuse.{lists_for_good_fused}
+use Rattle.fallible_iterator.proofs.Lemmas.Folds.{driven_by_item_first, driven_end, driven_failure, driven_of_first_break, holds_at_first_turn, holds_each_turn_after_item}
 use Rattle.fallible_iterator.proofs.Lemmas.Lists.ForGood.{lists_for_good_seen}
+use Rattle.fallible_iterator.proofs.Lemmas.Loops.{CountsDown}
 use Rattle.fallible_iterator.specs.Fuse.{Fuse}
+use Rattle.std.specs.Result.{IsErrAnd}
+use Rattle.std.specs.declared.cmp.Ordering.{Ordering}
+use Rattle.std.specs.declared.cmp.Ordering.TheVariants.{Less, Equal, Greater}
+use Rattle.std.specs.declared.ops.ControlFlow.{ControlFlow}
+use Rattle.std.specs.declared.ops.ControlFlow.TheVariants.{Continue, Break}
+use Rattle.fallible_itertools_joins.specs.Sides.{DrawsIf, MakesBesideLeft, MakesTaken, TurnedOn, YieldsHeldFirst, by_ordering, fused_contract, holding, join_step, made_of_two, taken_before}
+use Rattle.fallible_itertools_joins.specs.declared.zip_longest.EitherOrBoth.{EitherOrBoth}
 use Rattle.fallible_itertools_joins.specs.declared.zip_longest.EitherOrBoth.TheVariants.{Left, Right}
-use Rattle.fallible_itertools_joins.specs.Sides.{AsksOfTwo, Join, TurnedOn, by_ordering, join_answer, join_rule, joined_of_two, left_first, right_first, taken_before, two_items, fused_steps, side_gives, GivesHeldFirst, GivesIf, Rule, SidesPlace, left_failed, right_failed, both_gave, left_gave, right_gave, left_held_after, right_held_after, place_answer, place_decides}
-use Rattle.fallible_itertools_joins.specs.Laws.Sides.{IsLawfulRule, side_kept_and_of_item_where_given}
-use Rattle.fallible_itertools_joins.specs.Laws.SidesTraces.{SidesState, SidesStep}
 
 -- a result that is a failure, and which
 pub failure_where_is_err_and : {X E : Type 0} (r : Result X E) (e : E) → IsErrAnd r (λ d. d ≡ e) → r ≡ Err e
 failure_where_is_err_and (Ok x) e h = absurd h
 failure_where_is_err_and (Err d) e h = ap Err h
-
--- what a side yielded, known as another value
-pub gives_held_first_of_equal_item : {S A E : Type 0} (steps : S → Answered A E → S → Type 0) (p : S × Option A) (t : S) {x y : Option A} → x ≡ y → GivesHeldFirst steps p (Ok x) t → GivesHeldFirst steps p (Ok y) t
-gives_held_first_of_equal_item steps p t same g = subst (λ (z : _). GivesHeldFirst steps p (Ok z) t) same g
-
--- an item that a side yielded is one that might come
-pub side_gives_where_given_held_first : {S A E : Type 0} (m : Contract S A E) → Lawful m → (p : S × Option A) (t : S) {x : Option A} {y : A} → m.can_next p.0 → x ≡ Some y → GivesHeldFirst m.steps p (Ok x) t → side_gives m p y
-side_gives_where_given_held_first m l p t {y = y} c same g = (side_kept_and_of_item_where_given m l p t (Some y) c (gives_held_first_of_equal_item m.steps p t same g)).1
 
 -- ---- what it lists
 
@@ -63,7 +54,7 @@ module _ {S A E : Type 0} (steps : S → Answered A E → S → Type 0) where
     gives_for_good_where_each_answers_first (y ∷ l) s i = λ r t w. let d = goes s t r (y ∷ l) i w in (d.0, gives_for_good_where_each_answers_first l t d.1)
 
 -- what a source lists, its fused source lists, and then ends alone
-pub gives_for_good_of_fresh : {S A E : Type 0} (m : Contract S A E) (f : Fuse S) (s : S) (l : List (Result A E)) → fuse_parts f ≡ (s, false) → Lists m.steps s l → GivesForGood (fused_steps m.steps) f l
+pub gives_for_good_of_fresh : {S A E : Type 0} (m : Contract S A E) (f : Fuse S) (s : S) (l : List (Result A E)) → fuse_parts f ≡ (s, false) → Lists m.steps s l → GivesForGood ((fused_contract m).steps) f l
 gives_for_good_of_fresh {S = S} m f s l parts i =
     let source_is : f.it ≡ s = ap (λ (z : S × Bool). z.0) parts in
     (lists_for_good_fused m f l (subst (λ (t : S). fuse_parts f ≡ (t, false)) (sym source_is) parts) (subst (λ (t : S). Lists m.steps t l) (sym source_is) i)).runs
@@ -75,9 +66,9 @@ SideLists steps (s, None) l = GivesForGood steps s l
 
 module _ {S A E : Type 0} (steps : S → Answered A E → S → Type 0) where
   -- a side yields what stands first
-  pub side_gives_first : (p : S × Option A) (t : S) (r : Answered A E) (l : List (Result A E)) → SideLists steps p l → GivesHeldFirst steps p r t → (r ≡ first_answer l) × GivesForGood steps t (rest_of l)
-  side_gives_first (s, Some x) t r l i g = rw i.1 (g.0, subst (λ (z : S). GivesForGood steps z i.0) (sym g.1) i.2)
-  side_gives_first (s, None) t r l i g = answers_first_where_gives_for_good steps l s t r i g
+  side_gives_first : (s t : S) (h : Option A) (x : Option (Answered A E)) (r : Answered A E) (l : List (Result A E)) → SideLists steps (s, h) l → YieldsHeldFirst h x r → DrawsIf steps s x t → (r ≡ first_answer l) × GivesForGood steps t (rest_of l)
+  side_gives_first s t (Some y) x r l i g d = let same : t ≡ s = subst (λ (z : Option (Answered A E)). DrawsIf steps s z t) g.0 d in rw i.1 (g.1, subst (λ (z : S). GivesForGood steps z i.0) (sym same) i.2)
+  side_gives_first s t None x r l i g d = answers_first_where_gives_for_good steps l s t r i (subst (λ (z : Option (Answered A E)). DrawsIf steps s z t) g d)
 
 -- ---- what both sides list together
 
@@ -93,47 +84,60 @@ module _ {S A E : Type 0} (steps : S → Answered A E → S → Type 0) where
   side_lists_after_item t x (Some y) (Ok z ∷ l) kept is i = elim kept [ inl e ↦ absurd cc | inr e ↦ let same : z ≡ y = cc in (l, rw same refl, i) ]
   side_lists_after_item t x (Some y) (Err e ∷ l) kept is i = absurd cc
 
--- What a list word says of a rule: of what stands first in both lists it makes the answer that stands first, and of what is left of both lists the rest. Q holds of each closure that is reached.
-pub record ListsBy {A B C E F V : Type 0} (rule : Rule A B C E F V) (Q : F → Type 0) (W : List (Result A E) → List (Result B E) → List (Result C E)) : Type 0 where
+-- What a list word says of what is made of both sides: of what stands first in both lists it makes the answer that stands first, and of what is left of both lists the rest. Q holds of each closure that is reached.
+pub record ListsBy {A B C E F : Type 0} (makes : F → Option A → Option B → Answered C E × (Option A × Option B) → F → Type 0) (Q : F → Type 0) (W : List (Result A E) → List (Result B E) → List (Result C E)) : Type 0 where
   pub left_fails : (a : List (Result A E)) (b : List (Result B E)) (e : E) → failure e ≡ first_answer a → (failure e ≡ first_answer (W a b)) × (W (rest_of a) b ≡ rest_of (W a b))
   pub right_fails : (a : List (Result A E)) (b : List (Result B E)) (x : Option A) (e : E) → Ok x ≡ first_answer a → failure e ≡ first_answer b → (failure e ≡ first_answer (W a b)) × (W (left_over x a) (rest_of b) ≡ rest_of (W a b))
-  pub both_give : (a : List (Result A E)) (b : List (Result B E)) (x : Option A) (y : Option B) (v : V) (f g : F) → Q f → Ok x ≡ first_answer a → Ok y ≡ first_answer b → rule.decides f x y v g → Q g × (rule.answer x y v ≡ first_answer (W a b)) × (W (left_over (rule.left_held x y v) a) (left_over (rule.right_held x y v) b) ≡ rest_of (W a b))
+  pub both_give : (a : List (Result A E)) (b : List (Result B E)) (x : Option A) (y : Option B) (z : Answered C E × (Option A × Option B)) (f g : F) → Q f → Ok x ≡ first_answer a → Ok y ≡ first_answer b → makes f x y z g → Q g × (z.0 ≡ first_answer (W a b)) × (W (left_over z.1.0 a) (left_over z.1.1 b) ≡ rest_of (W a b))
 
-module _ {S U A B C E F V : Type 0} (steps : S → Answered A E → S → Type 0) (others : U → Answered B E → U → Type 0) (rule : Rule A B C E F V) (Q : F → Type 0) (W : List (Result A E) → List (Result B E) → List (Result C E)) (by : ListsBy rule Q W) (lawful : IsLawfulRule rule) where
+module _ {S U A B C E F : Type 0} (steps : S → Answered A E → S → Type 0) (others : U → Answered B E → U → Type 0) (makes : F → Option A → Option B → Answered C E × (Option A × Option B) → F → Type 0) (Q : F → Type 0) (W : List (Result A E) → List (Result B E) → List (Result C E)) (by : ListsBy makes Q W) (holds : (f : F) (a : Option A) (b : Option B) (z : Answered C E × (Option A × Option B)) (g : F) → makes f a b z g → ((z.1.0 ≡ None) ⊎ (z.1.0 ≡ a)) × ((z.1.1 ≡ None) ⊎ (z.1.1 ≡ b))) where
+  abbrev Held : Type 0
+  Held = Option A × Option B
+
   -- the sides list a and b, and the closure is one that is reached
-  abbrev ListTogether : SidesState steps others rule → List (Result C E) → Type 0
-  ListTogether p l = (a : List (Result A E)) × (b : List (Result B E)) × SideLists steps p.0 a × SideLists others p.1 b × Q p.2 × (W a b ≡ l)
+  abbrev ListTogether : S × U × (Held × F) → List (Result C E) → Type 0
+  ListTogether p l = (a : List (Result A E)) × (b : List (Result B E)) × SideLists steps (p.0, p.2.0.0) a × SideLists others (p.1, p.2.0.1) b × Q p.2.1 × (W a b ≡ l)
 
-  -- one place, where the sides of p list a and b
-  module _ (p : SidesState steps others rule) (a : List (Result A E)) (b : List (Result B E)) (i : SideLists steps p.0 a) (k : SideLists others p.1 b) (c : Q p.2) where
-    together_after_place : (x : SidesPlace A B E V) (t : S) (u : U) (g : F) → GivesIf steps p.0 (left_gave x) t → GivesIf others p.1 (right_gave x) u → place_decides rule p.2 x g → (place_answer rule x ≡ first_answer (W a b)) × ListTogether ((t, left_held_after rule p.0.1 x), (u, right_held_after rule p.1.1 x), g) (rest_of (W a b))
-    together_after_place (left_failed e) t u g m n d =
-        let first = side_gives_first steps p.0 t (failure e) a i m in
+  -- one place, where the sides list a and b
+  module _ (s : S) (u : U) (h : Option A) (k : Option B) (f : F) (a : List (Result A E)) (b : List (Result B E)) (i : SideLists steps (s, h) a) (j : SideLists others (u, k) b) (c : Q f) where
+    moved : (s' : S) (v v' : U) (z' z : Answered C E × Held) (k' g : F) → v' ≡ v → z' ≡ z → g ≡ k' → (z.0 ≡ first_answer (W a b)) × ListTogether (s', v, (z.1, k')) (rest_of (W a b)) → (z'.0 ≡ first_answer (W a b)) × ListTogether (s', v', (z'.1, g)) (rest_of (W a b))
+    moved s' v v' z' z k' g d i e t = subst (λ (y : U). (z'.0 ≡ first_answer (W a b)) × ListTogether (s', y, (z'.1, g)) (rest_of (W a b))) (sym d) (subst (λ (y : F). (z'.0 ≡ first_answer (W a b)) × ListTogether (s', v, (z'.1, y)) (rest_of (W a b))) (sym e) (subst (λ (y : Answered C E × Held). (y.0 ≡ first_answer (W a b)) × ListTogether (s', v, (y.1, k')) (rest_of (W a b))) (sym i) t))
+
+    together_after_place : (x : Option (Answered A E)) (y : Option (Answered B E)) (s' : S) (u' : U) (z : Answered C E × Held) (g : F) (v : Answered A E) → DrawsIf steps s x s' → DrawsIf others u y u' → YieldsHeldFirst h x v → MakesBesideLeft makes ((h, k), f) v y z g → (z.0 ≡ first_answer (W a b)) × ListTogether (s', u', (z.1, g)) (rest_of (W a b))
+    together_after_place x y s' u' z g (Err e) d d' n m =
+        let first = side_gives_first steps s s' h x (failure e) a i n d in
         let w = by.left_fails a b e first.0 in
-        (w.0, (rest_of a, b, first.1, subst (λ (z : U). SideLists others (z, p.1.1) b) (sym n) k, subst Q (sym d) c, w.1))
-    together_after_place (right_failed x e) t u g m n d =
-        let first = side_gives_first steps p.0 t (Ok x) a i m in
-        let second = side_gives_first others p.1 u (failure e) b k n in
-        let w = by.right_fails a b x e first.0 second.0 in
-        (w.0, (left_over x a, rest_of b, side_lists_after_item steps t x x a (inr refl) first.0 first.1, second.1, subst Q (sym d) c, w.1))
-    together_after_place (both_gave x y v) t u g m n d =
-        let first = side_gives_first steps p.0 t (Ok x) a i m in
-        let second = side_gives_first others p.1 u (Ok y) b k n in
-        let w = by.both_give a b x y v p.2 g c first.0 second.0 d in
-        (w.1, (left_over (rule.left_held x y v) a, left_over (rule.right_held x y v) b, side_lists_after_item steps t x (rule.left_held x y v) a (lawful.left_held_is_none_or_given x y v) first.0 first.1, side_lists_after_item others u y (rule.right_held x y v) b (lawful.right_held_is_none_or_given x y v) second.0 second.1, w.0, w.2))
+        let same : u' ≡ u = subst (λ (o : Option (Answered B E)). DrawsIf others u o u') m.0 d' in
+        let lists : ListTogether (s', u, ((None, k), f)) (rest_of (W a b)) = (rest_of a, b, first.1, j, c, w.1) in
+        moved s' u u' z (failure e, (None, k)) f g same m.1 m.2 (w.0, lists)
+    together_after_place x y s' u' z g (Ok o) d d' n (Err e, n', m) =
+        let first = side_gives_first steps s s' h x (Ok o) a i n d in
+        let second = side_gives_first others u u' k y (failure e) b j n' d' in
+        let w = by.right_fails a b o e first.0 second.0 in
+        let lists : ListTogether (s', u', ((o, None), f)) (rest_of (W a b)) = (left_over o a, rest_of b, side_lists_after_item steps s' o o a (inr refl) first.0 first.1, second.1, c, w.1) in
+        moved s' u' u' z (failure e, (o, None)) f g refl m.0 m.1 (w.0, lists)
+    together_after_place x y s' u' z g (Ok o) d d' n (Ok p, n', m) =
+        let first = side_gives_first steps s s' h x (Ok o) a i n d in
+        let second = side_gives_first others u u' k y (Ok p) b j n' d' in
+        let w = by.both_give a b o p z f g c first.0 second.0 m in
+        let kept = holds f o p z g m in
+        (w.1, (left_over z.1.0 a, left_over z.1.1 b, side_lists_after_item steps s' o z.1.0 a kept.0 first.0 first.1, side_lists_after_item others u' p z.1.1 b kept.1 second.0 second.1, w.0, w.2))
 
-  step_together_answers_first : (p q : SidesState steps others rule) (r : Answered C E) (l : List (Result C E)) → ListTogether p l → SidesStep steps others rule p r q → (r ≡ first_answer l) × ListTogether q (rest_of l)
-  step_together_answers_first p ((t, h), (u, k), g) r l i w = rw (w.2, w.4, w.6, ← i.5) (together_after_place p i.0 i.1 i.2 i.3 i.4 w.0 t u g w.1 w.3 w.5)
+  -- one call; what is said of items and hints has no part in it
+  abbrev HoldingStep : S × U × (Held × F) → Answered C E → S × U × (Held × F) → Type 0
+  HoldingStep = join_step (holding makes (λ P Q f. ⊤) (λ P Q f z. ⊤) (λ P Q f e. ⊤) (λ g k. g)) steps others
 
-  pub gives_for_good_sides : (p : SidesState steps others rule) (a : List (Result A E)) (b : List (Result B E)) → SideLists steps p.0 a → SideLists others p.1 b → Q p.2 → GivesForGood (SidesStep steps others rule) p (W a b)
-  gives_for_good_sides p a b i k c = gives_for_good_where_each_answers_first (SidesStep steps others rule) ListTogether (λ s t r l d w. step_together_answers_first s t r l d w) (W a b) p (a, b, i, k, c, refl)
+  step_together_answers_first : (p q : S × U × (Held × F)) (r : Answered C E) (l : List (Result C E)) → ListTogether p l → HoldingStep p r q → (r ≡ first_answer l) × ListTogether q (rest_of l)
+  step_together_answers_first (s, u, ((h, k), f)) (s', u', (hk, g)) r l i (x, y, d, d', (v, n, m)) = rw (← i.5) (together_after_place s u h k f i.0 i.1 i.2 i.3 i.4 x y s' u' (r, hk) g v d d' n m)
 
--- what is made of two fused sides, of which nothing is drawn or held, lists so too
-module _ {X S U A B C E F V : Type 0} (left : Contract S A E) (right : Contract U B E) (rule : Rule A B C E F V) (Q : F → Type 0) (W : List (Result A E) → List (Result B E) → List (Result C E)) (by : ListsBy rule Q W) (lawful : IsLawfulRule rule) (parts : X → (Fuse S × Option A) × (Fuse U × Option B) × F) (c : X) {p : Fuse S} {q : Fuse U} {f : F} (s : S) (u : U) (a : List (Result A E)) (b : List (Result B E)) where
-  pub lists_for_good_sides : parts c ≡ ((p, None), (q, None), f) → fuse_parts p ≡ (s, false) → fuse_parts q ≡ (u, false) → Lists left.steps s a → Lists right.steps u b → Q f → ListsForGood (λ c r d. SidesStep (fused_steps left.steps) (fused_steps right.steps) rule (parts c) r (parts d)) c (W a b)
-  lists_for_good_sides begun fresh also i k holds = lists_for_good_seen parts (SidesStep (fused_steps left.steps) (fused_steps right.steps) rule) c begun refl (gives_for_good_sides (fused_steps left.steps) (fused_steps right.steps) rule Q W by lawful ((p, None), (q, None), f) a b (gives_for_good_of_fresh left p s a fresh i) (gives_for_good_of_fresh right q u b also k) holds)
+  pub gives_for_good_holding : (s : S) (u : U) (f : F) (a : List (Result A E)) (b : List (Result B E)) → GivesForGood steps s a → GivesForGood others u b → Q f → GivesForGood HoldingStep (s, u, ((None, None), f)) (W a b)
+  gives_for_good_holding s u f a b i j c = gives_for_good_where_each_answers_first HoldingStep ListTogether (λ s t r l d w. step_together_answers_first s t r l d w) (W a b) (s, u, ((None, None), f)) (a, b, i, j, c, refl)
 
--- ---- a join
+  -- what is seen as this, of two sides of which nothing is held, lists so too
+  pub lists_for_good_holding : {X : Type 0} (parts : X → S × U × (Held × F)) (c : X) {p : S} {q : U} {f : F} (a : List (Result A E)) (b : List (Result B E)) → parts c ≡ (p, q, ((None, None), f)) → GivesForGood steps p a → GivesForGood others q b → Q f → ListsForGood (λ c r d. HoldingStep (parts c) r (parts d)) c (W a b)
+  lists_for_good_holding parts c {p} {q} {f} a b begun i k holds = lists_for_good_seen parts HoldingStep c begun refl (gives_for_good_holding p q f a b i k holds)
+
+-- ---- of two items one is taken, or both
 
 -- the item that stands first, where one does
 abbrev first_item : {A E : Type 0} → List (Result A E) → Option A
@@ -147,16 +151,16 @@ item_is_first_item_of_first_answer [] x is = cc
 item_is_first_item_of_first_answer (Ok y ∷ l) x is = cc
 item_is_first_item_of_first_answer (Err e ∷ l) x is = absurd cc
 
-module _ {A B C E F K : Type 0} (j : Join A B C E F K) (h : A → B → Result K E) (W : List (Result A E) → List (Result B E) → List (Result C E)) where
+module _ {A B C E K : Type 0} (order : K → Ordering) (makes : EitherOrBoth A B → C) (h : A → B → Result K E) (W : List (Result A E) → List (Result B E) → List (Result C E)) where
   -- A list word joins two lists: a failure stands where it is met, one item is taken by itself, and of two what h says.
   pub record JoinsLists : Type 0 where
     pub nothing : W [] [] ≡ []
-    pub right_alone : (y : B) (b : List (Result B E)) → W [] (Ok y ∷ b) ≡ Ok (j.makes (Right y)) ∷ W [] b
+    pub right_alone : (y : B) (b : List (Result B E)) → W [] (Ok y ∷ b) ≡ Ok (makes (Right y)) ∷ W [] b
     pub right_failure_alone : (e : E) (b : List (Result B E)) → W [] (Err e ∷ b) ≡ Err e ∷ W [] b
-    pub left_alone : (x : A) (a : List (Result A E)) → W (Ok x ∷ a) [] ≡ Ok (j.makes (Left x)) ∷ W a []
+    pub left_alone : (x : A) (a : List (Result A E)) → W (Ok x ∷ a) [] ≡ Ok (makes (Left x)) ∷ W a []
     pub left_failure : (e : E) (a : List (Result A E)) (b : List (Result B E)) → W (Err e ∷ a) b ≡ Err e ∷ W a b
     pub right_failure : (x : A) (e : E) (a : List (Result A E)) (b : List (Result B E)) → W (Ok x ∷ a) (Err e ∷ b) ≡ Err e ∷ W (Ok x ∷ a) b
-    pub of_two : (x : A) (y : B) (a : List (Result A E)) (b : List (Result B E)) → W (Ok x ∷ a) (Ok y ∷ b) ≡ taken_before j.order j.makes (h x y) x y (W a (Ok y ∷ b)) (W (Ok x ∷ a) b) (W a b)
+    pub of_two : (x : A) (y : B) (a : List (Result A E)) (b : List (Result B E)) → W (Ok x ∷ a) (Ok y ∷ b) ≡ taken_before order makes (h x y) x y (W a (Ok y ∷ b)) (W (Ok x ∷ a) b) (W a b)
 
   module _ (w : JoinsLists) where
     left_failure_first : (a : List (Result A E)) (b : List (Result B E)) (e : E) → failure e ≡ first_answer a → (failure e ≡ first_answer (W a b)) × (W (rest_of a) b ≡ rest_of (W a b))
@@ -173,45 +177,41 @@ module _ {A B C E F K : Type 0} (j : Join A B C E F K) (h : A → B → Result K
 
     -- what is made of two items, by what is said of them
     abbrev MadeOfTwo : A → B → List (Result A E) → List (Result B E) → Result K E → Result K E → Type 0
-    MadeOfTwo x y a b v said = let made = taken_before j.order j.makes said x y (W a (Ok y ∷ b)) (W (Ok x ∷ a) b) (W a b) in (joined_of_two j.order j.makes x y (Some v) ≡ first_answer made) × (W (left_over (cond (right_first j.order (Some v)) (Some x) None) (Ok x ∷ a)) (left_over (cond (left_first j.order (Some v)) (Some y) None) (Ok y ∷ b)) ≡ rest_of made)
+    MadeOfTwo x y a b v said = let made = taken_before order makes said x y (W a (Ok y ∷ b)) (W (Ok x ∷ a) b) (W a b) in let of_two = made_of_two order makes x y v in (of_two.0 ≡ first_answer made) × (W (left_over of_two.1.0 (Ok x ∷ a)) (left_over of_two.1.1 (Ok y ∷ b)) ≡ rest_of made)
 
-    left_over_taken : (x : A) (y : B) (a : List (Result A E)) (b : List (Result B E)) (o : Ordering) → W (left_over (cond (by_ordering false false true o) (Some x) None) (Ok x ∷ a)) (left_over (cond (by_ordering true false false o) (Some y) None) (Ok y ∷ b)) ≡ by_ordering (W a (Ok y ∷ b)) (W a b) (W (Ok x ∷ a) b) o
+    left_over_taken : (x : A) (y : B) (a : List (Result A E)) (b : List (Result B E)) (o : Ordering) → W (left_over (by_ordering {X = Option A × Option B} (None, Some y) (None, None) (Some x, None) o).0 (Ok x ∷ a)) (left_over (by_ordering {X = Option A × Option B} (None, Some y) (None, None) (Some x, None) o).1 (Ok y ∷ b)) ≡ by_ordering (W a (Ok y ∷ b)) (W a b) (W (Ok x ∷ a) b) o
     left_over_taken x y a b Less = refl
     left_over_taken x y a b Equal = refl
     left_over_taken x y a b Greater = refl
 
-    made_of_two : (x : A) (y : B) (a : List (Result A E)) (b : List (Result B E)) (v : Result K E) → MadeOfTwo x y a b v v
-    made_of_two x y a b (Ok k) = (refl, left_over_taken x y a b (j.order k))
-    made_of_two x y a b (Err e) = (refl, refl)
+    made_of_two_first : (x : A) (y : B) (a : List (Result A E)) (b : List (Result B E)) (v : Result K E) → MadeOfTwo x y a b v v
+    made_of_two_first x y a b (Ok k) = (refl, left_over_taken x y a b (order k))
+    made_of_two_first x y a b (Err e) = (refl, refl)
 
-    module _ (f : F) (acts : ActsWith j.says f h) where
-      abbrev GivesFirst : List (Result A E) → List (Result B E) → Option A → Option B → Option (Result K E) → F → Type 0
-      GivesFirst a b x y v k = (k ≡ f) × (join_answer j.order j.makes x y v ≡ first_answer (W a b)) × (W (left_over (cond (right_first j.order v) x None) a) (left_over (cond (left_first j.order v) y None) b) ≡ rest_of (W a b))
+    module _ {F : Type 0} (call : F → A → B → Result K E → F → Type 0) (f : F) (acts : ActsWith call f h) where
+      abbrev GivesFirst : List (Result A E) → List (Result B E) → Answered C E × (Option A × Option B) → F → Type 0
+      GivesFirst a b z k = (k ≡ f) × (z.0 ≡ first_answer (W a b)) × (W (left_over z.1.0 a) (left_over z.1.1 b) ≡ rest_of (W a b))
 
-      gives_first : (a : List (Result A E)) (b : List (Result B E)) (v : Option (Result K E)) (g k : F) → g ≡ f → Ok (first_item a) ≡ first_answer a → Ok (first_item b) ≡ first_answer b → AsksOfTwo j.says g (two_items (first_item a) (first_item b)) v k → GivesFirst a b (first_item a) (first_item b) v k
-      gives_first (Err e ∷ a) b v g k q m n d = absurd cc
-      gives_first [] (Err e ∷ b) v g k q m n d = absurd cc
-      gives_first (Ok x ∷ a) (Err e ∷ b) v g k q m n d = absurd cc
-      gives_first [] [] (Some v) g k q m n d = absurd d
-      gives_first [] [] None g k q m n d = rw w.nothing (d ∙ q, refl, refl)
-      gives_first [] (Ok y ∷ b) (Some v) g k q m n d = absurd d
-      gives_first [] (Ok y ∷ b) None g k q m n d = rw (w.right_alone y b) (d ∙ q, refl, refl)
-      gives_first (Ok x ∷ a) [] (Some v) g k q m n d = absurd d
-      gives_first (Ok x ∷ a) [] None g k q m n d = rw (w.left_alone x a) (d ∙ q, refl, refl)
-      gives_first (Ok x ∷ a) (Ok y ∷ b) None g k q m n d = absurd d
-      gives_first (Ok x ∷ a) (Ok y ∷ b) (Some v) g k q m n d =
-          let said = acts x y v k (subst (λ (u : F). j.says u x y v k) q d) in
-          let made = subst (λ (s : Result K E). MadeOfTwo x y a b v s) said.1 (made_of_two x y a b v) in
-          rw (w.of_two x y a b) (said.0, made.0, made.1)
+      gives_first : (a : List (Result A E)) (b : List (Result B E)) (z : Answered C E × (Option A × Option B)) (g k : F) → g ≡ f → Ok (first_item a) ≡ first_answer a → Ok (first_item b) ≡ first_answer b → MakesTaken order makes call g (first_item a) (first_item b) z k → GivesFirst a b z k
+      gives_first (Err e ∷ a) b z g k q m n d = absurd cc
+      gives_first [] (Err e ∷ b) z g k q m n d = absurd cc
+      gives_first (Ok x ∷ a) (Err e ∷ b) z g k q m n d = absurd cc
+      gives_first [] [] z g k q m n d = rw (d.0, w.nothing) (d.1 ∙ q, refl, refl)
+      gives_first [] (Ok y ∷ b) z g k q m n d = rw (d.0, w.right_alone y b) (d.1 ∙ q, refl, refl)
+      gives_first (Ok x ∷ a) [] z g k q m n d = rw (d.0, w.left_alone x a) (d.1 ∙ q, refl, refl)
+      gives_first (Ok x ∷ a) (Ok y ∷ b) z g k q m n (v, c, is) =
+          let said = acts x y v k (subst (λ (u : F). call u x y v k) q c) in
+          let made = subst (λ (s : Result K E). MadeOfTwo x y a b v s) said.1 (made_of_two_first x y a b v) in
+          rw (is, w.of_two x y a b) (said.0, made.0, made.1)
 
-      both_first : (a : List (Result A E)) (b : List (Result B E)) (x : Option A) (y : Option B) (v : Option (Result K E)) (g k : F) → g ≡ f → Ok x ≡ first_answer a → Ok y ≡ first_answer b → AsksOfTwo j.says g (two_items x y) v k → GivesFirst a b x y v k
-      both_first a b x y v g k q i l d =
+      both_first : (a : List (Result A E)) (b : List (Result B E)) (x : Option A) (y : Option B) (z : Answered C E × (Option A × Option B)) (g k : F) → g ≡ f → Ok x ≡ first_answer a → Ok y ≡ first_answer b → MakesTaken order makes call g x y z k → GivesFirst a b z k
+      both_first a b x y z g k q i l d =
           let m = item_is_first_item_of_first_answer a x i in
           let n = item_is_first_item_of_first_answer b y l in
-          subst (λ (z : Option A). GivesFirst a b z y v k) (sym m) (subst (λ (z : Option B). GivesFirst a b (first_item a) z v k) (sym n) (gives_first a b v g k q (subst (λ (z : Option A). ◌≡◌ {A = Answered A E} (Ok z) (first_answer a)) m i) (subst (λ (z : Option B). ◌≡◌ {A = Answered B E} (Ok z) (first_answer b)) n l) (subst (λ (z : Option B). AsksOfTwo j.says g (two_items (first_item a) z) v k) n (subst (λ (z : Option A). AsksOfTwo j.says g (two_items z y) v k) m d))))
+          gives_first a b z g k q (subst (λ (o : Option A). ◌≡◌ {A = Answered A E} (Ok o) (first_answer a)) m i) (subst (λ (o : Option B). ◌≡◌ {A = Answered B E} (Ok o) (first_answer b)) n l) (subst (λ (o : Option B). MakesTaken order makes call g (first_item a) o z k) n (subst (λ (o : Option A). MakesTaken order makes call g o y z k) m d))
 
-      pub lists_by_join : ListsBy (join_rule j) (λ g. g ≡ f) W
-      lists_by_join = record { left_fails = left_failure_first; right_fails = right_failure_first; both_give = λ a b x y v g k q i l d. both_first a b x y v g k q i l d }
+      pub lists_by_taken : ListsBy (MakesTaken order makes call) (λ g. g ≡ f) W
+      lists_by_taken = record { left_fails = left_failure_first; right_fails = right_failure_first; both_give = λ a b x y z g k q i l d. both_first a b x y z g k q i l d }
 
 -- ---- a fold of both sides
 

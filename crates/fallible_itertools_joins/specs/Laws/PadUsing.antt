@@ -1,25 +1,20 @@
 -- The contract of `PadUsing` is lawful where the source's is.
-use Rattle.std.specs.Prelude.{◌≡◌, ℕ, zero, suc, ◌+◌, ◌-◌, ◌<◌, ◌≤◌, length, List, [], ◌∷◌, ◌++◌, replicate, Option, Some, None, Ok, Err, Result}
+use Rattle.std.specs.Prelude.{◌≡◌, ℕ, zero, suc, ◌+◌, ◌-◌, ◌<◌, ◌≤◌, ◌⊎◌, length, max, List, [], ◌∷◌, ◌++◌, replicate, Option, Some, None, Ok, Err, Result}
 use Rattle.std.specs.Fn.{Mut}
-use Rattle.std.proofs.Common.{arith, refl, sym, ap, subst, ◌∙◌, inl, inr}
-use Rattle.fallible_iterator.specs.Traces.{Answered, Run, Yields, item, failure, end}
-use Rattle.fallible_iterator.specs.Closures.{IsCallable}
+use Rattle.std.proofs.Common.{arith, refl, sym, ap, subst, inl, inr}
+use Rattle.fallible_iterator.specs.Lists.{result_answer}
+use Rattle.fallible_iterator.specs.Traces.{Answered, Run, Yields, item, end}
+use Rattle.fallible_iterator.specs.Closures.{IsCallable, MayAnswer, Reaches, call_by_value, takes_by_value}
 use Rattle.fallible_iterator.specs.Contract.{Contract, KeptByDraw, Lawful}
-use Rattle.fallible_iterator.specs.Laws.Closures.{is_callable_after}
+use Rattle.fallible_iterator.specs.Held.{held_count}
+use Rattle.fallible_iterator.specs.Laws.Closures.{reaches_reflexive, reaches_by_call_first, is_callable_after, may_answer_of_call, may_answer_where_reached_may_answer}
 use Rattle.fallible_iterator.specs.Laws.LawForm.{IsTraced}
-use Rattle.fallible_iterator.specs.Laws.Passing.{lawful_passing}
-use Rattle.fallible_iterator.specs.Laws.Contract.{lawful_with_sound}
-use Rattle.fallible_iterator.specs.Laws.Hints.Passing.{map_hold}
 use Rattle.fallible_iterator.specs.Sound.{HintsHold, sound_always}
-use Rattle.fallible_iterator.specs.OneToOne.Map.{map_outcome}
-use Rattle.fallible_itertools_joins.specs.Laws.OverTraces.{InverseWhere, lawful_parts_where}
-use Rattle.fallible_itertools_joins.specs.Laws.Sides.{lawful_fused}
-use Rattle.fallible_itertools_joins.specs.Laws.SidesHints.{NoItemAfterEnd, lawful_sides, no_item_after_end_of_fused}
-use Rattle.fallible_itertools_joins.specs.Laws.ZipLongest.{counts_longest, is_lawful_rule_longest, left_not_held, right_not_held}
-use Rattle.fallible_itertools_joins.specs.PadUsing.{BothFree, IndexTrace, beside_index_contract, both_sides, from_index, index_contract, index_step, pad_call, pad_takes, pad_using_contract}
-use Rattle.fallible_itertools_joins.specs.Sides.{GivesIf, SidesPlace, left_failed, right_failed, both_gave, right_gave, left_held_after, right_held_after, fused_contract, sides_step}
-use Rattle.fallible_itertools_joins.specs.ZipLongest.{hint_greater, longest_rule}
-use Rattle.fallible_itertools_joins.specs.declared.zip_longest.EitherOrBoth.{EitherOrBoth}
+use Rattle.fallible_itertools_joins.specs.Laws.Sides.{Follows, IsLawfulHolding, IsLawfulJoin, MadeOf, OfItem, is_lawful_holding, is_lawful_join_as}
+use Rattle.fallible_itertools_joins.specs.Laws.SidesHints.{Counts, CountsHolding, MakesOneAtLeast, MakesOneAtMost, NoItemAfterEnd, counts_as, counts_holding, lawful_beside}
+use Rattle.fallible_itertools_joins.specs.Laws.ZipLongest.{greater_bounds}
+use Rattle.fallible_itertools_joins.specs.PadUsing.{IndexTrace, MakesPadded, from_index, index_contract, index_step, pad_using_contract, padding}
+use Rattle.fallible_itertools_joins.specs.ZipLongest.{hint_greater}
 
 module _ (E : Type 0) where
   run_of_indices : (count ends : ℕ) (p q : ℕ × ℕ) → count ≤ p.1 - p.0 → (0 < ends → p.1 - p.0 ≤ count) → q ≡ (p.0 + count, p.1) → Run (index_step {E = E}) p (from_index (λ i. item i) p.0 count ++ replicate ends end) q
@@ -98,24 +93,66 @@ module _ {E : Type 0} where
 
 -- ---- the source beside the indices
 
-module _ {S A : Type 0} where
-  both_free_parts : (p : (S × Option A) × ((ℕ × ℕ) × Option ℕ) × Unit {0}) → BothFree p → both_sides (p.0.0, p.1.0) ≡ p
-  both_free_parts ((s, h), (u, k), f) e = rw (e.0, e.1) refl
+module _ {F A E : Type 0} (call : F → ℕ → Result A E → F → Type 0) (takes : F → ℕ → Type 0) where
+  abbrev Askable : (A → Type 0) → (ℕ → Type 0) → F → Type 0
+  Askable P Q f = IsCallable call takes Q f
 
-  both_sides_made : InverseWhere (both_sides {S = S} {A = A}) (λ p. BothFree p)
-  both_sides_made = record { make = λ p. (p.0.0, p.1.0); made = λ s. refl; has = both_free_parts; holds = λ s. (refl, refl) }
+  abbrev Gives : (A → Type 0) → (ℕ → Type 0) → F → A → Type 0
+  Gives P Q f z = P z ⊎ MayAnswer call Q f (λ i v. v ≡ Ok z)
 
-module _ {S A E : Type 0} (steps : S → Answered A E → S → Type 0) where
-  -- at a place nothing is held again, since the indices don't fail
-  free_after_place : (x : SidesPlace A ℕ E (Option (Result (Unit {0}) E))) (p q : ℕ × ℕ) (h i : Option A) (k j : Option ℕ) → h ≡ None → k ≡ None → i ≡ left_held_after longest_rule h x → j ≡ right_held_after longest_rule k x → GivesIf index_step (p, k) (right_gave x) q → (i ≡ None) × (j ≡ None)
-  free_after_place (left_failed e) p q h i k j left right is also g = (is, also ∙ right)
-  free_after_place (right_failed y e) p q h i k j left right is also g = absurd (subst (λ (z : Option ℕ). GivesIf index_step (p, z) (Some (failure e)) q) right g)
-  free_after_place (both_gave y z v) p q h i k j left right is also g = (is ∙ left_not_held y v, also ∙ right_not_held z v)
+  abbrev Refuses : (A → Type 0) → (ℕ → Type 0) → F → E → Type 0
+  Refuses P Q f e = MayAnswer call Q f (λ i v. v ≡ Err e)
 
-  both_stay_free : (p : (S × Option A) × ((ℕ × ℕ) × Option ℕ) × Unit {0}) (r : Answered (EitherOrBoth A ℕ) E) (q : (S × Option A) × ((ℕ × ℕ) × Option ℕ) × Unit {0}) → BothFree p → sides_step steps index_step longest_rule p r q → BothFree q
-  both_stay_free p r q free w = free_after_place w.0 p.1.0 q.1.0 p.0.1 q.0.1 p.1.1 q.1.1 free.0 free.1 w.2 w.4 w.3
+  abbrev Padded : (A → Type 0) → (A → Type 0) → (ℕ → Type 0) → (ℕ → Type 0) → F → F → Type 0
+  Padded P P' Q Q' f g = Follows (MakesPadded call) Askable Gives Refuses P P' Q Q' f g
+
+  follows_reached : (P P' : A → Type 0) (Q Q' : ℕ → Type 0) (f g : F) → ((z : A) → P' z → P z) → ((z : ℕ) → Q' z → Q z) → Reaches call Q f g → Padded P P' Q Q' f g
+  follows_reached P P' Q Q' f g p q r = ((λ h. is_callable_after q r h), (λ z h. elim h [ inl w ↦ inl (p z w) | inr w ↦ inr (may_answer_where_reached_may_answer q r w) ]), (λ e h. may_answer_where_reached_may_answer q r h))
+
+  pub holds_padded : (f : F) (a : Option A) (b : Option ℕ) (z : Answered A E × (Option A × Option ℕ)) (g : F) → MakesPadded call f a b z g → ((z.1.0 ≡ None) ⊎ (z.1.0 ≡ a)) × ((z.1.1 ≡ None) ⊎ (z.1.1 ≡ b))
+  holds_padded f (Some x) b z g m = rw m.0 (inl refl, inl refl)
+  holds_padded f None (Some i) z g m = rw m.2 (inl refl, inl refl)
+  holds_padded f None None z g m = rw m.0 (inl refl, inl refl)
+
+  module _ (P : A → Type 0) (Q : ℕ → Type 0) (f : F) where
+    made_of_call : (i : ℕ) (v : Result A E) (g : F) → Q i → call f i v g → MadeOf (MakesPadded call) Askable Gives Refuses P Q f 1 0 (result_answer v)
+    made_of_call i (Ok x) g q c = (inr (may_answer_of_call g i (Ok x) q c refl), omega arith)
+    made_of_call i (Err e) g q c = (may_answer_of_call g i (Err e) q c refl, omega arith)
+
+    made_padded : (a : Option A) (b : Option ℕ) (z : Answered A E × (Option A × Option ℕ)) (g : F) → OfItem P a → OfItem Q b → MakesPadded call f a b z g → MadeOf (MakesPadded call) Askable Gives Refuses P Q f (held_count a + held_count b) (held_count z.1.0 + held_count z.1.1) z.0 × Padded P P Q Q f g
+    made_padded (Some x) b z g p q m = rw (m.0, m.1) ((inl p, omega arith), follows_reached P P Q Q f f (λ x h. h) (λ y h. h) reaches_reflexive)
+    made_padded None (Some i) z g p q (v, c, is) = rw is (made_of_call i v g q c, follows_reached P P Q Q f g (λ x h. h) (λ y h. h) (reaches_by_call_first i v q c reaches_reflexive))
+    made_padded None None z g p q m = rw (m.0, m.1) (omega arith, follows_reached P P Q Q f f (λ x h. h) (λ y h. h) reaches_reflexive)
+
+  is_lawful_padded : IsLawfulHolding (MakesPadded call) Askable Gives Refuses
+  is_lawful_padded = record { less = λ P P' Q Q' f p q. follows_reached P P' Q Q' f f p q reaches_reflexive; holds = holds_padded; made = λ P Q f a b z g p q m. made_padded P Q f a b z g p q m }
+
+  pub is_lawful_padding : IsLawfulJoin (padding call takes)
+  is_lawful_padding = is_lawful_join_as (λ f. ((None, None), f)) _ (is_lawful_holding (MakesPadded call) Askable Gives Refuses hint_greater is_lawful_padded)
+
+-- ---- its hint counts
+
+module _ {F A E : Type 0} (call : F → ℕ → Result A E → F → Type 0) (takes : F → ℕ → Type 0) where
+  one_at_item : (f : F) (a : Option A) (b : Option ℕ) (z : Answered A E × (Option A × Option ℕ)) (g : F) (c : A) → MakesPadded call f a b z g → z.0 ≡ item c → MakesOneAtMost max a b z.1 × MakesOneAtLeast max a b z.1
+  one_at_item f (Some x) (Some i) z g c m is = rw m.0 ((λ i j. omega arith), (λ i j d e. omega arith))
+  one_at_item f (Some x) None z g c m is = rw m.0 ((λ i j. omega arith), (λ i j d e. omega (arith, e)))
+  one_at_item f None (Some i) z g c m is = rw m.2 ((λ i j. omega arith), (λ i j d e. omega (arith, d)))
+  one_at_item f None None z g c m is = absurd (let no = subst (λ (w : Answered A E × (Option A × Option ℕ)). w.0 ≡ item c) m.0 is in cc)
+
+  result_is_no_end : (v : Result A E) → result_answer v ≡ end → ⊥
+  result_is_no_end (Ok x) is = cc
+  result_is_no_end (Err e) is = cc
+
+  none_at_end : (f : F) (a : Option A) (b : Option ℕ) (z : Answered A E × (Option A × Option ℕ)) (g : F) → MakesPadded call f a b z g → z.0 ≡ end → (a ≡ None) × (b ≡ None)
+  none_at_end f (Some x) b z g m is = absurd (let no = subst (λ (w : Answered A E × (Option A × Option ℕ)). w.0 ≡ end) m.0 is in cc)
+  none_at_end f None (Some i) z g m is = absurd (result_is_no_end m.0 (subst (λ (w : Answered A E × (Option A × Option ℕ)). w.0 ≡ end) m.2 is))
+  none_at_end f None None z g m is = (refl, refl)
+
+  counts_padded : CountsHolding (MakesPadded call) hint_greater max max
+  counts_padded = record { at_item = one_at_item; at_end = none_at_end; nothing = refl; bounds = greater_bounds }
+
+  counts_padding : Counts (padding call takes)
+  counts_padding = counts_as (λ f. ((None, None), f)) _ (counts_holding (MakesPadded call) max max hint_greater counts_padded (Askable call takes) (Gives call takes) (Refuses call takes))
 
 pub lawful_pad_using : {S F A E : Type 0} {m : Contract S A E} (g : Mut F (ℕ × Unit {0}) (Result A E)) → Lawful m → Lawful (pad_using_contract m g)
-lawful_pad_using {E = E} {m = m} g l =
-    let beside = lawful_parts_where both_sides_made (both_stay_free (fused_contract m).steps) (lawful_sides (fused_contract m) index_contract longest_rule hint_greater (lawful_fused l) lawful_index (no_item_after_end_of_fused m.steps) (no_item_after_end_of_indices E) is_lawful_rule_longest counts_longest) in
-    lawful_with_sound (map_hold (pad_call g) beside.hold) (lawful_passing (pad_call g) (λ P f. IsCallable (pad_call g) (pad_takes g) P f) map_outcome (λ p h. (beside_index_contract m).hints p.0 h) (λ P Q f h weak reached c. is_callable_after weak reached c) beside)
+lawful_pad_using {E = E} g l = lawful_beside (padding (call_by_value g) (takes_by_value g)) l lawful_index (no_item_after_end_of_indices E) (is_lawful_padding (call_by_value g) (takes_by_value g)) (counts_padding (call_by_value g) (takes_by_value g))

@@ -50,7 +50,7 @@ fn unread(place: u64, tag: u8) -> Fault {
     match tag {
         b'G' | b'H' | b'W' | b'c' | b'd' => (7, format!("byte {place}: COPY isn't read")),
         b'V' => (7, format!("byte {place}: a function's call isn't read")),
-        _ => (5, format!("byte {place}: a message has the unknown tag {tag}")),
+        _ => (5, format!("byte {place}: a message has the unexpected tag {tag}")),
     }
 }
 

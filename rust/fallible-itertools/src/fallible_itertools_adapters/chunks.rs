@@ -66,7 +66,7 @@ impl<I: FallibleIterator> FallibleIterator for Chunks<I> {
             Some(None) => (0, Some(0)),
             _ => {
                 let hint = self.it.size_hint();
-                let low = batches(hint.0, self.stage.0.0.0, &self.stage.0.0.1);
+                let low = batches(hint.0, self.stage.0.0.0);
                 (low, with_held(hint, self.stage.0.0.1.is_some()).1)
             }
         }
@@ -145,19 +145,8 @@ fn grown<X>(n: usize, held: &mut Option<Vec<X>>, item: X) -> usize {
     }
 }
 
-// How many batches so many items make, with the buffered one.
-fn batches<X>(low: usize, n: usize, held: &Option<Vec<X>>) -> usize {
-    match held {
-        None => begun_of(low, n, 0),
-        Some(batch) => 1 + begun_of(low, n, n.saturating_sub(batch.len()).max(1)),
-    }
-}
-
-// How many batches so many items begin, of which the first go into that room.
-fn begun_of(low: usize, n: usize, room: usize) -> usize {
-    if low <= room {
-        0
-    } else {
-        1 + (low - 1 - room) / n.max(1)
-    }
+// How many batches of n items so many items make.
+fn batches(items: usize, n: usize) -> usize {
+    let n = n.max(1);
+    items / n + (items % n).min(1)
 }

@@ -1,9 +1,8 @@
 //! The adapter that yields what a closure returns for each index that no item has.
 
 use crate::base::Turn;
-use crate::base::{Outcome, Pass, passed};
 use crate::fallible_itertools_joins::sides::{DrawsBoth, drive_both};
-use crate::fallible_itertools_joins::zip_longest::{EitherOrBoth, greater};
+use crate::fallible_itertools_joins::zip_longest::greater;
 use fallible_iterator::{FallibleIterator, Fuse};
 
 /// The items of the source, and then what the closure returns for each index below n that no item has. The source is fused. If the closure fails, its failure stands in that item's place.
@@ -72,48 +71,20 @@ impl<I: FallibleIterator, F: FnMut(usize) -> Result<I::Item, I::Error>> DrawsBot
 
     #[inline(always)]
     fn next_of_both(&mut self) -> (Result<Option<I::Item>, I::Error>, bool) {
-        let beside = beside_index(&mut self.it, &mut self.next, self.end);
-        let alone = matches!(beside, Ok(Some(EitherOrBoth::Right(_))));
-        (passed(beside, &mut self.f, &PadPass), alone)
-    }
-}
-
-// An item as it is, and what the closure returns for an index alone.
-struct PadPass;
-
-impl<X, E, F: FnMut(usize) -> Result<X, E>> Pass<F, EitherOrBoth<X, usize>, E> for PadPass {
-    type Kept = X;
-
-    type Answer = Result<X, E>;
-
-    #[inline(always)]
-    fn pass(&self, f: &mut F, item: EitherOrBoth<X, usize>) -> Outcome<X, E> {
-        match item {
-            EitherOrBoth::Both(x, _) => Outcome::Kept(x),
-            EitherOrBoth::Left(x) => Outcome::Kept(x),
-            EitherOrBoth::Right(i) => match f(i) {
-                Ok(x) => Outcome::Kept(x),
-                Err(e) => Outcome::Failure(e),
+        match self.it.next() {
+            Ok(Some(x)) => {
+                let _ = next_index(&mut self.next, self.end);
+                (Ok(Some(x)), false)
+            }
+            Ok(None) => match next_index(&mut self.next, self.end) {
+                Some(i) => match (self.f)(i) {
+                    Ok(x) => (Ok(Some(x)), true),
+                    Err(e) => (Err(e), true),
+                },
+                None => (Ok(None), true),
             },
+            Err(e) => (Err(e), false),
         }
-    }
-}
-
-// An item beside its index, or the one of them that there is.
-fn beside_index<I: FallibleIterator>(
-    it: &mut Fuse<I>,
-    next: &mut usize,
-    end: usize,
-) -> Result<Option<EitherOrBoth<I::Item, usize>>, I::Error> {
-    match it.next()? {
-        Some(x) => match next_index(next, end) {
-            Some(i) => Ok(Some(EitherOrBoth::Both(x, i))),
-            None => Ok(Some(EitherOrBoth::Left(x))),
-        },
-        None => match next_index(next, end) {
-            Some(i) => Ok(Some(EitherOrBoth::Right(i))),
-            None => Ok(None),
-        },
     }
 }
 

@@ -33,23 +33,9 @@ struct Compared {
 // How many lists have at most three answers.
 const SHORT_LISTS: u32 = 85;
 
-/// Makes each comparison of every two scripts of at most three answers, prints each mismatch and then the tally, and adds this to the total.
+/// Makes each comparison of every two scripts of at most three answers, prints the first mismatch of each comparison and then the tally, and adds this to the total.
 pub fn drive_comparisons(total: &mut Tally) -> io::Result<()> {
     let mut tally = Tally::none();
-    for left in 0..SHORT_LISTS {
-        for right in 0..SHORT_LISTS {
-            drive_two(list_at(left), list_at(right), &mut tally)?;
-        }
-    }
-    let cases = tally.cases;
-    let mismatches = tally.mismatches;
-    println!("comparisons of two scripts: {cases} cases, {mismatches} mismatches");
-    total.add_all(tally);
-    Ok(())
-}
-
-// Makes each comparison of these two.
-fn drive_two(left: [Answer; 4], right: [Answer; 4], tally: &mut Tally) -> io::Result<()> {
     let comparisons = [
         Comparison::Cmp,
         Comparison::PartialCmp,
@@ -60,25 +46,50 @@ fn drive_two(left: [Answer; 4], right: [Answer; 4], tally: &mut Tally) -> io::Re
         Comparison::Gt,
         Comparison::Ge,
     ];
+    for comparison in comparisons {
+        let mut of_comparison = Tally::none();
+        for left in 0..SHORT_LISTS {
+            for right in 0..SHORT_LISTS {
+                drive_two(
+                    comparison,
+                    list_at(left),
+                    list_at(right),
+                    &mut of_comparison,
+                )?;
+            }
+        }
+        tally.add_all(of_comparison);
+    }
+    let cases = tally.cases;
+    let mismatches = tally.mismatches;
+    println!("comparisons of two scripts: {cases} cases, {mismatches} mismatches");
+    total.add_all(tally);
+    Ok(())
+}
+
+// Makes the comparison of these two.
+fn drive_two(
+    comparison: Comparison,
+    left: [Answer; 4],
+    right: [Answer; 4],
+    tally: &mut Tally,
+) -> io::Result<()> {
     let all_left = whole(left)?;
     let all_right = whole(right)?;
-    for comparison in comparisons {
-        let wanted = wanted(comparison, all_left.as_slice(), all_right.as_slice());
-        let (of_left, of_right) = (Cell::new(0), Cell::new(0));
-        let answer = compare(
-            comparison,
-            &mut Script::new(left, &of_left),
-            &mut Script::new(right, &of_right),
-        );
-        let got = Compared {
-            answer,
-            left: of_left.get(),
-            right: of_right.get(),
-        };
-        tally.add(got == wanted);
-        if got != wanted {
-            println!("{left:?} and {right:?}: {comparison:?}: wanted {wanted:?}, got {got:?}");
-        }
+    let wanted = wanted(comparison, all_left.as_slice(), all_right.as_slice());
+    let (of_left, of_right) = (Cell::new(0), Cell::new(0));
+    let answer = compare(
+        comparison,
+        &mut Script::new(left, &of_left),
+        &mut Script::new(right, &of_right),
+    );
+    let got = Compared {
+        answer,
+        left: of_left.get(),
+        right: of_right.get(),
+    };
+    if tally.add(got == wanted) {
+        println!("{left:?} and {right:?}: {comparison:?}: wanted {wanted:?}, got {got:?}");
     }
     Ok(())
 }

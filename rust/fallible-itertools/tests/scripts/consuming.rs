@@ -38,7 +38,7 @@ struct Consumed {
     draws: u32,
 }
 
-/// Makes each call over every script, prints each mismatch and then the tally, and adds this to the total.
+/// Makes each call over every script, prints the first mismatch of each call and then the tally, and adds this to the total.
 pub fn drive_consumers(total: &mut Tally) -> io::Result<()> {
     let mut tally = Tally::none();
     let consumers = [
@@ -52,10 +52,11 @@ pub fn drive_consumers(total: &mut Tally) -> io::Result<()> {
         Consumer::Unzip,
         Consumer::FoldIf,
     ];
-    for number in 0..LISTS {
-        let answers = list_at(number);
-        let given = Given::new(answers)?;
-        for consumer in consumers {
+    for consumer in consumers {
+        let mut of_call = Tally::none();
+        for number in 0..LISTS {
+            let answers = list_at(number);
+            let given = Given::new(answers)?;
             let draws = Cell::new(0);
             let answer = consume(consumer, Script::new(answers, &draws))?;
             let got = Consumed {
@@ -63,11 +64,11 @@ pub fn drive_consumers(total: &mut Tally) -> io::Result<()> {
                 draws: draws.get(),
             };
             let wanted = wanted(consumer, &given);
-            tally.add(got == wanted);
-            if got != wanted {
+            if of_call.add(got == wanted) {
                 println!("a script: {answers:?}: {consumer:?}: wanted {wanted:?}, got {got:?}");
             }
         }
+        tally.add_all(of_call);
     }
     let cases = tally.cases;
     let mismatches = tally.mismatches;

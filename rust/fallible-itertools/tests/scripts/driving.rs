@@ -25,12 +25,13 @@ impl Tally {
         }
     }
 
-    /// One more comparison.
-    pub fn add(&mut self, holds: bool) {
+    /// One more comparison. Says whether it is the first that failed, which is told.
+    pub fn add(&mut self, holds: bool) -> bool {
         self.cases = self.cases.wrapping_add(1);
         if !holds {
             self.mismatches = self.mismatches.wrapping_add(1);
         }
+        !holds && self.mismatches == 1
     }
 
     /// All of another tally.
@@ -40,7 +41,7 @@ impl Tally {
     }
 }
 
-/// Drives the case by every script, prints each mismatch and then the tally, and adds this to the total.
+/// Drives the case by every script, prints the first mismatch and then the tally, and adds this to the total.
 pub fn drive<C: Case>(total: &mut Tally) -> io::Result<()> {
     let mut tally = Tally::none();
     drive_each::<C>(&mut tally)?;
@@ -53,16 +54,18 @@ pub fn drive<C: Case>(total: &mut Tally) -> io::Result<()> {
     Ok(())
 }
 
-/// Drives the case by every script, and prints each mismatch.
-pub fn drive_each<C: Case>(tally: &mut Tally) -> io::Result<()> {
+/// Drives the case by every script, prints the first mismatch, and adds what was compared to the total.
+pub fn drive_each<C: Case>(total: &mut Tally) -> io::Result<()> {
+    let mut tally = Tally::none();
     for number in 0..LISTS {
         let answers = list_at(number);
-        compare_trace::<C>(answers, tally)?;
+        compare_trace::<C>(answers, &mut tally)?;
         for j in 0..5 {
-            compare_stops::<C>(answers, j, tally)?;
+            compare_stops::<C>(answers, j, &mut tally)?;
         }
-        compare_drains::<C>(answers, tally)?;
+        compare_drains::<C>(answers, &mut tally)?;
     }
+    total.add_all(tally);
     Ok(())
 }
 
@@ -92,9 +95,7 @@ fn compare_trace<C: Case>(answers: [Answer; 4], tally: &mut Tally) -> io::Result
             }
         }
     }
-    let holds = expected.as_slice().get(..8) == Some(trace.as_slice());
-    tally.add(holds);
-    if !holds {
+    if tally.add(expected.as_slice().get(..8) == Some(trace.as_slice())) {
         let name = C::name();
         let source = C::source();
         println!("{name} over {source}: {answers:?}: draws: wanted {expected:?}, got {trace:?}");
@@ -152,9 +153,7 @@ fn compare<C: Case>(
         return Ok(());
     };
     let expected = wanted(operation, drawn);
-    let holds = outcome == expected;
-    tally.add(holds);
-    if !holds {
+    if tally.add(outcome == expected) {
         let name = C::name();
         let source = C::source();
         println!(

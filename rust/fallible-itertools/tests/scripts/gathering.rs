@@ -70,7 +70,7 @@ struct Told {
     draws: u32,
 }
 
-/// Makes each call over every script, prints each mismatch and then the tally, and adds this to the total.
+/// Makes each call over every script, prints the first mismatch of each call and then the tally, and adds this to the total.
 pub fn drive_gathering(total: &mut Tally) -> io::Result<()> {
     let mut tally = Tally::none();
     let calls = [
@@ -104,10 +104,11 @@ pub fn drive_gathering(total: &mut Tally) -> io::Result<()> {
         Call::Tail,
         Call::KSmallest,
     ];
-    for number in 0..LISTS {
-        let answers = list_at(number);
-        let given = Given::new(answers)?;
-        for call in calls {
+    for call in calls {
+        let mut of_call = Tally::none();
+        for number in 0..LISTS {
+            let answers = list_at(number);
+            let given = Given::new(answers)?;
             let draws = Cell::new(0);
             let answer = make(call, Script::new(answers, &draws))?;
             let got = Told {
@@ -115,11 +116,11 @@ pub fn drive_gathering(total: &mut Tally) -> io::Result<()> {
                 draws: draws.get(),
             };
             let wanted = wanted(call, &given);
-            tally.add(got == wanted);
-            if got != wanted {
+            if of_call.add(got == wanted) {
                 println!("a script: {answers:?}: {call:?}: wanted {wanted:?}, got {got:?}");
             }
         }
+        tally.add_all(of_call);
     }
     let cases = tally.cases;
     let mismatches = tally.mismatches;

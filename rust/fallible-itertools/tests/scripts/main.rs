@@ -39,6 +39,7 @@ impl From<AllocError> for io::Error {
         match refused {}
     }
 }
+mod tagged;
 
 use back::OverBack;
 use comparing::drive_comparisons;
@@ -48,6 +49,7 @@ use gathering::drive_gathering;
 use layers::Over;
 use rows::drive_rows;
 use std::io;
+use tagged::drive_tagged;
 
 #[test]
 fn each_adapter_by_every_short_script() -> io::Result<()> {
@@ -63,9 +65,10 @@ fn each_adapter_by_every_short_script() -> io::Result<()> {
     drive_consumers(&mut total)?;
     drive_comparisons(&mut total)?;
     drive_gathering(&mut total)?;
+    drive_tagged(&mut total)?;
     let cases = total.cases;
     let mismatches = total.mismatches;
-    assert_eq!((cases, mismatches), (1609010, 0));
+    assert_eq!((cases, mismatches), (1612079, 0));
     Ok(())
 }
 

@@ -21,8 +21,7 @@ pub fn drive_rows(total: &mut Tally) -> io::Result<()> {
         Answer::End,
     ];
     let mut tally = Tally::none();
-    tally.add(got == wanted);
-    if got != wanted {
+    if tally.add(got == wanted) {
         println!("flat_map of 1 and 5: wanted {wanted:?}, got {got:?}");
     }
     let cases = tally.cases;

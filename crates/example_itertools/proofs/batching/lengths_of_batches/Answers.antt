@@ -1,6 +1,7 @@
 -- What is collected are the lengths of the batches of the readings' list.
 use Rattle.std.proofs.Common.{rules, tests, length}
-use Rattle.fallible_iterator.proofs.Lemmas.Making.{collected_made, made_by_map_of_made}
+use Rattle.fallible_iterator.proofs.Lemmas.Making.{collected_made}
+use Rattle.fallible_iterator.proofs.Lemmas.PassingMade.{made_by_map_of_made}
 use Rattle.example_itertools.proofs.batching.lengths_of_batches.Goals as goal
 
 pub returns : goal.returns

@@ -1,7 +1,7 @@
 -- The closure keeps the depth that it captured.
 use Rattle.std.specs.Prelude.{◌≡◌}
 use Rattle.std.proofs.Common.{rules, refl}
-use Rattle.example_tasks.proofs.NestingLemmas.{holds_at_each_turn_of_kept}
+use Rattle.fallible_iterator.proofs.Lemmas.Loops.{holds_at_each_turn_of_kept}
 use Rattle.example_tasks.proofs.nesting.+fn-total_of-fold+total_of.Goals as goal
 
 pub fold-requires-clause-callable : goal.fold-requires-clause-callable

@@ -13,16 +13,16 @@ use Rattle.fallible_core.specs.declared.filtering.skip_while.SkipWhile.{SkipWhil
 -- ---- what it lists
 
 -- what the predicate returns for an item, where it is called, and the flag after it
-abbrev asked_by : {X E : Type 0} → (X → Result Bool E) → Bool → X → Option (Result Bool E)
+abbrev pub asked_by : {X E : Type 0} → (X → Result Bool E) → Bool → X → Option (Result Bool E)
 asked_by h true x = None
 asked_by h false x = Some (h x)
 
-abbrev flag_after : {X E : Type 0} → (X → Result Bool E) → Bool → X → Bool
+abbrev pub flag_after : {X E : Type 0} → (X → Result Bool E) → Bool → X → Bool
 flag_after h true x = true
 flag_after h false x = answers_false (h x)
 
 module _ {X E : Type 0} (h : X → Result Bool E) where
-  abbrev listed_of_flag : Bool → List (Result X E) → List (Result X E)
+  abbrev pub listed_of_flag : Bool → List (Result X E) → List (Result X E)
   listed_of_flag b l = passed skip_while_outcome (asked_by h) (flag_after h) b l
 
   listed_of_true_is_list : (l : List (Result X E)) → listed_of_flag true l ≡ l
@@ -35,7 +35,7 @@ module _ {X E : Type 0} (h : X → Result Bool E) where
   by_outcome_of_skip_while_is_cons_from x (Ok true) l skipped rest all some = some
   by_outcome_of_skip_while_is_cons_from x (Err e) l skipped rest all some = ap (λ k. Err e ∷ k) some
 
-  listed_is_skipped_while : (l : List (Result X E)) → listed_of_flag false l ≡ skipped_while h l
+  pub listed_is_skipped_while : (l : List (Result X E)) → listed_of_flag false l ≡ skipped_while h l
   unfolding skipped_while
   listed_is_skipped_while [] = refl
   listed_is_skipped_while (Ok x ∷ l) = by_outcome_of_skip_while_is_cons_from x (h x) l (skipped_while h l) (λ b. listed_of_flag b l) (listed_of_true_is_list l) (listed_is_skipped_while l)

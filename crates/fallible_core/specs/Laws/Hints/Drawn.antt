@@ -155,6 +155,7 @@ if_some_lessened_at_least None i j n same le = tt
 if_some_lessened_at_least (Some u) i j n same le = omega (arith, same, le)
 
 module _ {S A E : Type 0} (steps : S → Answered A E → S → Type 0) where
+  -- Law: A hint that brackets what comes, less the items of a run, brackets what comes after that run.
   pub brackets_hint_less_after_yields : (s t : S) (xs : List A) (h : ℕ × Option ℕ) → Brackets steps s h → Yields steps s xs t → Brackets steps t (hint_less (length xs) h)
   brackets_hint_less_after_yields s t xs h b ran = record {
     above = λ ys u more. if_some_lessened_at_least h.1 (length xs) (length ys) (length (xs ++ ys)) (length-append xs ys) (b.above (xs ++ ys) u (yields_appended_of_two_yields steps xs ys s t u ran more));

@@ -1,5 +1,5 @@
 -- Hints of what lists a list.
-use Rattle.std.specs.Prelude.{◌≡◌, ℕ, suc, ◌+◌, ◌≤◌, List, [], ◌∷◌, length, map, reverse, Option, Result, Ok, Err, IfSome}
+use Rattle.std.specs.Prelude.{◌≡◌, ℕ, suc, ◌+◌, ◌≤◌, Bool, List, [], ◌∷◌, length, map, reverse, Option, Result, Ok, Err, IfSome}
 use Rattle.std.specs.List.{filter_map, cons_option}
 use Rattle.std.specs.Borrow.{Bor}
 use Rattle.std.proofs.Common.{refl, sym, ap, subst, ◌∙◌, arith}
@@ -11,7 +11,14 @@ use Rattle.fallible_contract.specs.Hints.{hint_sum}
 use Rattle.fallible_contract.proofs.Lemmas.Lists.Passing.{passed}
 use Rattle.fallible_contract.proofs.Lemmas.BothEnds.{lists_first, lists_from_back}
 use Rattle.fallible_contract.proofs.Lemmas.BothEnds.Passing.{filter_map-reverse, with_answer, source_list_of_with_answer_is_same, passed_list_of_with_answer_is_passed}
-use Rattle.fallible_core.specs.OneToOne.Map.{mapped}
+use Rattle.fallible_core.specs.OneToOne.Map.{mapped, map_outcome}
+use Rattle.fallible_core.specs.OneToOne.Inspect.{inspected, inspect_outcome}
+use Rattle.fallible_core.specs.Filtering.Filter.{filtered, tested_outcome}
+use Rattle.fallible_core.specs.Filtering.FilterMap.{filter_mapped, filter_map_outcome}
+use Rattle.fallible_core.proofs.Lemmas.OneToOne.Map.{map_outcome_is_never_end, passed_is_mapped, leaves_none_out_of_map}
+use Rattle.fallible_core.proofs.Lemmas.OneToOne.Inspect.{inspect_outcome_is_never_end, passed_is_inspected, leaves_none_out_of_inspect}
+use Rattle.fallible_core.proofs.Lemmas.Filtering.Filter.{tested_outcome_is_never_end, passed_is_filtered}
+use Rattle.fallible_core.proofs.Lemmas.Filtering.FilterMap.{filter_map_outcome_is_never_end, passed_is_filter_mapped}
 use Rattle.fallible_contract.specs.Failing.{failures_mapped}
 use Rattle.fallible_core.specs.OneToOne.Cloned.{pointed_to}
 use Rattle.fallible_core.specs.Joining.Chain.{chained}
@@ -42,6 +49,7 @@ module _ {S A E : Type 0} (steps : S → Answered A E → S → Type 0) where
   no_failures_and_all_items_at_end (x ∷ xs) s t u (Ok y ∷ l) g ran step = let d = no_failures_and_all_items_at_end xs ran.0 t u l (g (item x) ran.0 ran.1).1 ran.2 step in (d.0, omega (arith, d.1))
   no_failures_and_all_items_at_end (x ∷ xs) s t u (Err e ∷ l) g ran step = absurd (let d = (g (item x) ran.0 ran.1).0 in cc)
 
+  -- Law: A hint that bounds the list which a value lists brackets what comes from the value.
   pub brackets_of_list_bounds : (s : S) (l : List (Result A E)) (h : ℕ × Option ℕ) → Lists steps s l → Bounds h l → Brackets steps s h
   brackets_of_list_bounds s l h i b = record {
     above = λ xs t ran. if_some_at_least_of_smaller h.1 (length xs) (length (items_listed l)) (yields_length_at_most_items_listed xs s t l i.runs ran) b.above;
@@ -58,6 +66,7 @@ module _ {A E : Type 0} where
   length_filter_map_reversed : {X : Type 0} (h : Result A E → Option X) (l : List (Result A E)) → length (filter_map h (reverse l)) ≡ length (filter_map h l)
   length_filter_map_reversed h l = ap length (filter_map-reverse h l) ∙ length-reverse (filter_map h l)
 
+  -- Law: A hint that bounds a list bounds its reverse. So each hint of `Rev`, which is its source's, bounds its list wherever it bounds the source's.
   pub bounds_reversed : (h : ℕ × Option ℕ) (l : List (Result A E)) → Bounds h l → Bounds h (reverse l)
   bounds_reversed h l b = record {
     above = subst (λ (n : ℕ). IfSome h.1 (λ m. n ≤ m)) (sym (length_filter_map_reversed item_listed l)) b.above;
@@ -67,24 +76,22 @@ module _ {A E : Type 0} where
         omega (arith, le, length-reverse l);
   }
 
+-- Law: A hint that bounds what a value lists from both ends brackets what comes from the front.
 pub brackets_front_of_list_bounds : {S A E : Type 0} {front back : S → Answered A E → S → Type 0} (s : S) (l : List (Result A E)) (h : ℕ × Option ℕ) → ListsBothEnds front back s l → Bounds h l → Brackets front s h
 brackets_front_of_list_bounds {front = front} s l h i b = brackets_of_list_bounds front s l h (lists_first i) b
 
+-- Law: A hint that bounds what a value lists from both ends brackets what comes from the back.
 pub brackets_back_of_list_bounds : {S A E : Type 0} {front back : S → Answered A E → S → Type 0} (s : S) (l : List (Result A E)) (h : ℕ × Option ℕ) → ListsBothEnds front back s l → Bounds h l → Brackets back s h
 brackets_back_of_list_bounds {back = back} s l h i b = brackets_of_list_bounds back s (reverse l) h (lists_from_back i) (bounds_reversed h l b)
-
--- a hint that is made as said
-pub bounds_of_equal_hint : {A E : Type 0} {h k : ℕ × Option ℕ} (l : List (Result A E)) → h ≡ k → Bounds k l → Bounds h l
-bounds_of_equal_hint l e b = subst (λ (j : ℕ × Option ℕ). Bounds j l) (sym e) b
 
 -- ---- lists of as many items, or of fewer
 
 -- a list is made of another: it has no more items
-pub bounds_upper_alone_of_fewer_items : {A E B D : Type 0} (h : ℕ × Option ℕ) (l : List (Result A E)) (k : List (Result B D)) → length (items_listed k) ≤ length (items_listed l) → Bounds h l → Bounds (0, h.1) k
+bounds_upper_alone_of_fewer_items : {A E B D : Type 0} (h : ℕ × Option ℕ) (l : List (Result A E)) (k : List (Result B D)) → length (items_listed k) ≤ length (items_listed l) → Bounds h l → Bounds (0, h.1) k
 bounds_upper_alone_of_fewer_items h l k le b = record { above = if_some_at_least_of_smaller h.1 (length (items_listed k)) (length (items_listed l)) le b.above; below = λ none. omega arith }
 
 -- and is as long, and where it has no failure the other has none
-pub bounds_of_as_long_list : {A E B D : Type 0} (h : ℕ × Option ℕ) (l : List (Result A E)) (k : List (Result B D)) → length (items_listed k) ≤ length (items_listed l) → length k ≡ length l → (failures_listed k ≡ [] → failures_listed l ≡ []) → Bounds h l → Bounds h k
+bounds_of_as_long_list : {A E B D : Type 0} (h : ℕ × Option ℕ) (l : List (Result A E)) (k : List (Result B D)) → length (items_listed k) ≤ length (items_listed l) → length k ≡ length l → (failures_listed k ≡ [] → failures_listed l ≡ []) → Bounds h l → Bounds h k
 bounds_of_as_long_list h l k le same none b = record {
   above = if_some_at_least_of_smaller h.1 (length (items_listed k)) (length (items_listed l)) le b.above;
   below = λ sure. let low = b.below (none sure) in omega (arith, low, same);
@@ -104,7 +111,7 @@ module _ {X R B E : Type 0} (outcome : X → R → Outcome B E) where
   length_items_passed_at_most_source (Ok c ∷ asked) = let le = items_at_most_one_more_by_outcome (outcome c.0 c.1) (passed_list outcome asked) in let rest = length_items_passed_at_most_source asked in omega (arith, le, rest)
   length_items_passed_at_most_source (Err e ∷ asked) = length_items_passed_at_most_source asked
 
-  -- the upper bound stays
+  -- Law: The upper bound of a hint that bounds a list bounds what passes of it by a closure, whatever that returns, and so does a lower bound of 0. So each hint of `Filter` and `FilterMap` bounds its list wherever a hint of its source bounds the source's list.
   pub bounds_upper_passed : (asked : List (Result (X × R) E)) (h : ℕ × Option ℕ) → Bounds h (source_list asked) → Bounds (0, h.1) (passed_list outcome asked)
   bounds_upper_passed asked h b = bounds_upper_alone_of_fewer_items h (source_list asked) (passed_list outcome asked) (length_items_passed_at_most_source asked) b
 
@@ -131,7 +138,7 @@ module _ {X R B E : Type 0} (outcome : X → R → Outcome B E) where
     no_source_failures_where_none_passed (Ok c ∷ asked) e = no_source_failures_where_none_passed asked (no_failures_in_rest_of_outcome (outcome c.0 c.1) (passed_list outcome asked) e)
     no_source_failures_where_none_passed (Err d ∷ asked) e = absurd cc
 
-    -- so do both bounds where nothing is left out
+    -- Law: Where nothing is left out, a hint that bounds a list bounds what passes of it by a closure, whatever that returns. So each hint of `Map` and `Inspect` bounds its list wherever it bounds the source's.
     pub bounds_passed : (asked : List (Result (X × R) E)) (h : ℕ × Option ℕ) → Bounds h (source_list asked) → Bounds h (passed_list outcome asked)
     bounds_passed asked h b = bounds_of_as_long_list h (source_list asked) (passed_list outcome asked) (length_items_passed_at_most_source asked) (length_of_passed_list_is_of_source asked) (no_source_failures_where_none_passed asked) b
 
@@ -142,11 +149,27 @@ module _ {X R B E : Type 0} (outcome : X → R → Outcome B E) (never_ends : (x
   bounds_asked h l b = subst (λ (k : List (Result X E)). Bounds h k) (sym (source_list_of_with_answer_is_same f l)) b
 
   -- the same of the adapter's list by its name
-  pub bounds_upper_acting : (l : List (Result X E)) (k : List (Result B E)) (h : ℕ × Option ℕ) → passed outcome (λ (p : Unit {0}) x. f x) (λ p x. p) tt l ≡ k → Bounds h l → Bounds (0, h.1) k
+  bounds_upper_acting : (l : List (Result X E)) (k : List (Result B E)) (h : ℕ × Option ℕ) → passed outcome (λ (p : Unit {0}) x. f x) (λ p x. p) tt l ≡ k → Bounds h l → Bounds (0, h.1) k
   bounds_upper_acting l k h is b = subst (λ (j : List (Result B E)). Bounds (0, h.1) j) (passed_list_of_with_answer_is_passed outcome never_ends f l ∙ is) (bounds_upper_passed outcome (map (with_answer f) l) h (bounds_asked h l b))
 
   pub bounds_acting : LeavesNoneOut outcome → (l : List (Result X E)) (k : List (Result B E)) (h : ℕ × Option ℕ) → passed outcome (λ (p : Unit {0}) x. f x) (λ p x. p) tt l ≡ k → Bounds h l → Bounds h k
   bounds_acting leaves_none_out l k h is b = subst (λ (j : List (Result B E)). Bounds h j) (passed_list_of_with_answer_is_passed outcome never_ends f l ∙ is) (bounds_passed outcome leaves_none_out never_ends (map (with_answer f) l) h (bounds_asked h l b))
+
+-- the list word of `Map`
+pub bounds_mapped : {X B E : Type 0} (f : X → Result B E) (l : List (Result X E)) (h : ℕ × Option ℕ) → Bounds h l → Bounds h (mapped f l)
+bounds_mapped f l h b = bounds_acting map_outcome map_outcome_is_never_end f leaves_none_out_of_map l _ h (passed_is_mapped f l) b
+
+-- of `Inspect`
+pub bounds_inspected : {X E : Type 0} (f : X → Result (Unit {0}) E) (l : List (Result X E)) (h : ℕ × Option ℕ) → Bounds h l → Bounds h (inspected f l)
+bounds_inspected f l h b = bounds_acting inspect_outcome inspect_outcome_is_never_end f leaves_none_out_of_inspect l _ h (passed_is_inspected f l) b
+
+-- of `Filter`
+pub bounds_filtered : {X E : Type 0} (f : X → Result Bool E) (l : List (Result X E)) (h : ℕ × Option ℕ) → Bounds h l → Bounds (0, h.1) (filtered f l)
+bounds_filtered f l h b = bounds_upper_acting tested_outcome tested_outcome_is_never_end f l _ h (passed_is_filtered f l) b
+
+-- of `FilterMap`
+pub bounds_filter_mapped : {X B E : Type 0} (f : X → Result (Option B) E) (l : List (Result X E)) (h : ℕ × Option ℕ) → Bounds h l → Bounds (0, h.1) (filter_mapped f l)
+bounds_filter_mapped f l h b = bounds_upper_acting filter_map_outcome filter_map_outcome_is_never_end f l _ h (passed_is_filter_mapped f l) b
 
 -- ---- `Cloned`
 
@@ -166,14 +189,22 @@ failures_asked_are_of_source [] = refl
 failures_asked_are_of_source (Ok c ∷ asked) = failures_asked_are_of_source asked
 failures_asked_are_of_source (Err e ∷ asked) = ap (λ l. e ∷ l) (failures_asked_are_of_source asked)
 
-pub bounds_asked_of_source_bounds : {X R E : Type 0} (asked : List (Result (X × R) E)) (h : ℕ × Option ℕ) → Bounds h (source_list asked) → Bounds h asked
+bounds_asked_of_source_bounds : {X R E : Type 0} (asked : List (Result (X × R) E)) (h : ℕ × Option ℕ) → Bounds h (source_list asked) → Bounds h asked
 bounds_asked_of_source_bounds asked h b = bounds_of_as_long_list h (source_list asked) asked (omega (arith, length_items_asked_is_of_source asked)) (length_asked_is_of_source asked) (λ none. sym (failures_asked_are_of_source asked) ∙ none) b
 
-pub mapped_is_pointed_to : {T E : Type 0} (l : List (Result (Bor T) E)) → mapped (λ (x : Bor T). Ok x.now) l ≡ pointed_to l
+-- Law: A hint that bounds a list bounds clones of its items, each beside what it is a clone of. So each hint of `Cloned` bounds its list wherever it bounds the source's.
+pub bounds_clones : {T E : Type 0} (asked : List (Result (Bor T × T) E)) (h : ℕ × Option ℕ) → Bounds h (source_list asked) → Bounds h (mapped (λ c. Ok c.1) asked)
+bounds_clones asked h b = bounds_mapped (λ c. Ok c.1) asked h (bounds_asked_of_source_bounds asked h b)
+
+mapped_is_pointed_to : {T E : Type 0} (l : List (Result (Bor T) E)) → mapped (λ (x : Bor T). Ok x.now) l ≡ pointed_to l
 unfolding mapped pointed_to
 mapped_is_pointed_to [] = refl
 mapped_is_pointed_to (Ok x ∷ l) = ap (λ k. Ok x.now ∷ k) (mapped_is_pointed_to l)
 mapped_is_pointed_to (Err e ∷ l) = ap (λ k. Err e ∷ k) (mapped_is_pointed_to l)
+
+-- Law: A hint that bounds a list bounds what its items point to. So each hint of `Copied`, and of `Cloned` where a clone equals its original, bounds its list wherever it bounds the source's.
+pub bounds_pointed_to : {T E : Type 0} (l : List (Result (Bor T) E)) (h : ℕ × Option ℕ) → Bounds h l → Bounds h (pointed_to l)
+bounds_pointed_to l h b = subst (λ (k : List (Result _ _)). Bounds h k) (mapped_is_pointed_to l) (bounds_mapped (λ x. Ok x.now) l h b)
 
 -- ---- `MapErr`
 
@@ -196,11 +227,16 @@ module _ {A D E : Type 0} (f : D → E) where
   length_failures_of_mapped (Ok x ∷ l) = length_failures_of_mapped l
   length_failures_of_mapped (Err e ∷ l) = ap suc (length_failures_of_mapped l)
 
+  -- Law: A hint that bounds a list bounds it with another failure in each failure's place. So each hint of `MapErr`, `ErrInto` and `InspectErr` bounds its list wherever it bounds the source's.
   pub bounds_failures_mapped : (l : List (Result A D)) (h : ℕ × Option ℕ) → Bounds h l → Bounds h (failures_mapped f l)
   bounds_failures_mapped l h b = bounds_of_as_long_list h l (failures_mapped f l) (omega (arith, length_items_of_failures_mapped l)) (length_failures_mapped l) (λ none. nil_of_length_zero (failures_listed l) (sym (length_failures_of_mapped l) ∙ ap length none)) b
 
-  pub bounds_before_mapping : (l : List (Result A D)) (h : ℕ × Option ℕ) → Bounds h (failures_mapped f l) → Bounds h l
+  bounds_before_mapping : (l : List (Result A D)) (h : ℕ × Option ℕ) → Bounds h (failures_mapped f l) → Bounds h l
   bounds_before_mapping l h b = bounds_of_as_long_list h (failures_mapped f l) l (omega (arith, length_items_of_failures_mapped l)) (sym (length_failures_mapped l)) (λ none. nil_of_length_zero (failures_listed (failures_mapped f l)) (length_failures_of_mapped l ∙ ap length none)) b
+
+-- where the closure's answer to each failure stands beside the failure
+pub bounds_failures_answered : {A D E : Type 0} (asked : List (Result A (D × E))) (h : ℕ × Option ℕ) → Bounds h (failures_mapped (λ c. c.0) asked) → Bounds h (failures_mapped (λ c. c.1) asked)
+bounds_failures_answered asked h b = bounds_failures_mapped (λ c. c.1) asked h (bounds_before_mapping (λ c. c.0) asked h b)
 
 -- ---- `Chain`
 
@@ -222,6 +258,7 @@ module _ {A E : Type 0} where
   no_failures_in_either_of_chained (Ok x ∷ a) b e = no_failures_in_either_of_chained a b e
   no_failures_in_either_of_chained (Err d ∷ a) b e = absurd cc
 
+  -- Law: The sums of the bounds of two hints bound two lists together, where each hint bounds its own. So each hint of `Chain` bounds its list wherever the hints of its sides bound theirs.
   pub bounds_chained : (a b : List (Result A E)) (f g : ℕ × Option ℕ) → Bounds f a → Bounds g b → Bounds (hint_sum f g) (chained a b)
   bounds_chained a b f g i j = record {
     above = if_some_fitting_sum_at_least_both f.1 g.1 (length (items_listed a)) (length (items_listed b)) (length (items_listed (chained a b))) (length_items_chained a b) i.above j.above;

@@ -15,6 +15,6 @@ module _ {S A : Type 0} (can : S → Type 0) (gives : S → Option A → S → T
   pub lists_elements : (l : List A) → RunsRead gives (λ x. x) s.it l → Lists (parts_as into_fallible_parts (into_fallible_contract can gives remaining)).steps s (items l)
   lists_elements l reads = lists_seen into_fallible_parts (into_fallible_contract can gives remaining).steps s refl (map_is_items l) (gives_read (λ x. x) never can gives remaining (λ x. x) (λ x. Ok x) answer_is_item_where_element_given l s.it reads)
 
-  -- from the back
+  -- Law: From the back `IntoFallible` lists what the std iterator reads from the back, each element an item.
   pub lists_elements_back : (l : List A) → RunsReadBack gives (λ x. x) s.it l → Lists (parts_as into_fallible_parts (into_fallible_contract can gives remaining)).steps s (reversed (items l))
   lists_elements_back l reads = subst (Lists (parts_as into_fallible_parts (into_fallible_contract can gives remaining)).steps s) (items_reversed l) (lists_elements (reverse l) (runs_read_back gives (λ x. x) s.it l reads))

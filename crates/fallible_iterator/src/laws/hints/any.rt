@@ -1,8 +1,6 @@
-// What holds of the hints of any fallible iterator, and of a nest.
-ghost use Rattle.std.specs.Prelude.{ℕ, List, length, Option, Result};
-ghost use Rattle.fallible_contract.specs.Traces.{Yields};
-ghost use Rattle.fallible_contract.specs.Hints.{hint_less};
-ghost use Rattle.fallible_iterator.specs.SoundHints.{Brackets, SoundHints};
+// The hints of a nest.
+ghost use Rattle.std.specs.Prelude.{Result};
+ghost use Rattle.fallible_iterator.specs.SoundHints.{SoundHints};
 
 use crate::sources::Convert;
 use fallible_core::cutting::Take;
@@ -10,12 +8,6 @@ use fallible_core::filtering::Filter;
 use fallible_core::headline::law_hints;
 use fallible_core::one_to_one::Map;
 use fallible_core::traits::FallibleIterator;
-
-/// A hint that brackets what comes, less the items of a run, brackets what comes after that run.
-pub fn law_hints_after<I: FallibleIterator>()
-    ensures { (s t : I) (xs : List I.Item) (h : ℕ × Option ℕ) → Brackets I.contract.steps s h
-        → Yields I.contract.steps s xs t → Brackets I.contract.steps t (hint_less (length xs) h) }
-{}
 
 /// Of `convert(it).map(f).filter(g).take(n)`: every hint is sound, whatever the std iterator is.
 pub fn law_hints_nest<

@@ -26,7 +26,7 @@ fn each_program_prints_or_tells_why() {
         (env!("CARGO_BIN_EXE_sum_groups"), b"7,1\n7,2\n", "groups\n7: 2 rows, 3\nbatches\n7: 2 rows, 3\n", b"7\n", "row 1: not a key and an amount\n"),
         (env!("CARGO_BIN_EXE_sum_table"), b"\x01\0\0\0\x02\0\0\0", "records 1\nlow 1\nhigh 2\n", b"\x03\0\0\0\x02\0\0\0", "record 1: the first number is above the second\n"),
         (env!("CARGO_BIN_EXE_json_tokens"), b" [1, {}]\n", "[1,{}]\n", b"[1,\n]", "line 2, column 1: unexpected ']', expected a value\n"),
-        (env!("CARGO_BIN_EXE_pg_rows"), rows, "1\n\n", b"x\0\0\0\x04", "byte 0: a message has the unknown tag 120\n"),
+        (env!("CARGO_BIN_EXE_pg_rows"), rows, "1\n\n", b"x\0\0\0\x04", "byte 0: a message has the unexpected tag 120\n"),
     ] {
         assert_eq!(run(program, &[], input), found(0, output, ""));
         let (status, printed, line) = run(program, &[], bad);

@@ -1,13 +1,12 @@
--- The fold whose state is the last item and the predicate is the search, or else the last item.
+-- The fold by the step, and what it makes of a list.
 use Rattle.fallible_iterator.specs.Closures.{call_by_reference}
-use Rattle.fallible_itertools.proofs.Lemmas.FindOrLast.{callable_driving_keeping_last, found_or_last_by_fold, found_or_last_of_lists}
+use Rattle.fallible_itertools.specs.FindOrLast.{found_or_last}
+use Rattle.fallible_itertools.proofs.Lemmas.Stepping.{consumed_of_lists, consumes_by_drive}
 use Rattle.fallible_itertools.proofs.traits.FallibleItertools.find_or_last.Goals as goal
 
-pub drive-answer-requires-clause-callable : goal.drive-answer-requires-clause-callable
-drive-answer-requires-clause-callable g c = callable_driving_keeping_last (call_by_reference g.F.FnMut) c.requires.callable
-
 pub returns-clause-found : goal.returns-clause-found
-returns-clause-found g c = (_, _, found_or_last_by_fold (call_by_reference g.F.FnMut) c.drive-answer.ensures c.answer_or_none.ensures c.or_kept.ensures)
+returns-clause-found g c = (_, _, consumes_by_drive c.drive-answer.ensures c.answer_or.ensures)
 
 pub returns-clause-value : goal.returns-clause-value
-returns-clause-value g c h l acts i = found_or_last_of_lists (call_by_reference g.F.FnMut) h acts l i (returns-clause-found g c).2
+unfolding found_or_last
+returns-clause-value g c h l acts i = consumed_of_lists (call_by_reference g.F.FnMut) h _ acts l i (returns-clause-found g c).2

@@ -1,13 +1,12 @@
--- The fold whose state is the last item is the search, of which each item is its own key.
-use Rattle.std.proofs.Common.{true}
-use Rattle.fallible_iterator.specs.Searching.{all_pick}
-use Rattle.fallible_iterator.proofs.Lemmas.Searching.{search_drains_of_drive}
-use Rattle.fallible_itertools.specs.IsSorted.{ItselfCall, OrderCall}
-use Rattle.fallible_itertools.proofs.Lemmas.IsSorted.{drain_is_in_order}
+-- The fold by the step, and what it makes of a list.
+use Rattle.fallible_itertools_adapters.specs.Plan.{calls_nothing}
+use Rattle.fallible_itertools.specs.IsSorted.{in_order}
+use Rattle.fallible_itertools.proofs.Lemmas.Stepping.{consumed_of_lists, consumes_by_drive}
 use Rattle.fallible_itertools.proofs.traits.FallibleItertools.is_sorted.Goals as goal
 
 pub returns-clause-sorted : goal.returns-clause-sorted
-returns-clause-sorted g c = (_, _, search_drains_of_drive {call = OrderCall g.Self.Item.PartialOrd.partial_cmp ItselfCall} {pick = all_pick} true (λ p x r q w. w) c.drive.ensures c.answer_or.ensures)
+returns-clause-sorted g c = (_, _, consumes_by_drive c.drive.ensures c.answer_or.ensures)
 
 pub returns-clause-value : goal.returns-clause-value
-returns-clause-value g c order is l i = rw is (drain_is_in_order g.Self.Item.PartialOrd.partial_cmp l (returns-clause-sorted g c).2 i)
+unfolding in_order
+returns-clause-value g c order is l i = rw is (consumed_of_lists calls_nothing (λ u. u) tt (λ q v k called. absurd called) l i (returns-clause-sorted g c).2)

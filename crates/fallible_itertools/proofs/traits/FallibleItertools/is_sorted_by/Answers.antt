@@ -1,14 +1,12 @@
--- The fold whose state is the last item and the closure is the search.
-use Rattle.std.proofs.Common.{true}
-use Rattle.fallible_iterator.specs.Picking.{call_at_two}
-use Rattle.fallible_iterator.specs.Searching.{all_pick}
-use Rattle.fallible_iterator.proofs.Lemmas.Searching.{search_drains_of_drive}
-use Rattle.fallible_itertools.specs.IsSortedBy.{PairCall}
-use Rattle.fallible_itertools.proofs.Lemmas.IsSortedBy.{in_order_by_of_lists}
+-- The fold by the step, and what it makes of a list.
+use Rattle.fallible_itertools_adapters.specs.DedupBy.{same_call}
+use Rattle.fallible_itertools.specs.IsSorted.{in_order_by}
+use Rattle.fallible_itertools.proofs.Lemmas.Stepping.{consumed_of_lists, consumes_by_drive}
 use Rattle.fallible_itertools.proofs.traits.FallibleItertools.is_sorted_by.Goals as goal
 
 pub returns-clause-sorted : goal.returns-clause-sorted
-returns-clause-sorted g c = (_, _, search_drains_of_drive {call = PairCall (call_at_two g.F.FnMut)} {pick = all_pick} true (λ p x r q w. w) c.drive.ensures c.answer_or.ensures)
+returns-clause-sorted g c = (_, _, consumes_by_drive c.drive.ensures c.answer_or.ensures)
 
 pub returns-clause-value : goal.returns-clause-value
-returns-clause-value g c h l acts i = in_order_by_of_lists (call_at_two g.F.FnMut) h _ acts l (returns-clause-sorted g c).2 i
+unfolding in_order_by
+returns-clause-value g c h l acts i = consumed_of_lists (same_call g.F.FnMut) (λ both. h both.0 both.1) _ (λ both. acts both.0 both.1) l i (returns-clause-sorted g c).2

@@ -1,12 +1,23 @@
-// changed: `init` is cloned into the place of the value that the closure takes, and `insert` is never refused
+// changed: a value that drops nothing is cloned, as Rattle copies it, and in the place of another a clone of `init` stands while the closure has it; `insert` is never refused
 // proved: 3f613766
-fn turn(&self, state: &mut (HashMap<K, B>, F), item: (K, X)) -> ControlFlow<E, ()> {
+fn turn(&self, state: &mut (HashMap<K, B>, F, Option<B>), item: (K, X)) -> ControlFlow<E, ()> {
     let (key, value) = item;
     if let Some(so_far) = state.0.get_mut(&key) {
-        let taken = core::mem::replace(so_far, self.init.clone());
+        let taken = if core::mem::needs_drop::<B>() {
+            let in_its_place = match state.2.take() {
+                Some(spare) => spare,
+                None => self.init.clone(),
+            };
+            core::mem::replace(so_far, in_its_place)
+        } else {
+            so_far.clone()
+        };
         match (state.1)(taken, value) {
             Ok(folded) => {
-                *so_far = folded;
+                let spare = core::mem::replace(so_far, folded);
+                if core::mem::needs_drop::<B>() {
+                    state.2 = Some(spare);
+                }
                 return ControlFlow::Continue(());
             }
             Err(e) => return ControlFlow::Break(e),

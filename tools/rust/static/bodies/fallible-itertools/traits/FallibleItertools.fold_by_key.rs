@@ -8,9 +8,9 @@ where
     G: FnMut(B, Self::Item) -> Result<B, Self::Error>,
 {
     let mut it = Keyed { it: self, f: key };
-    let mut state = (HashMap::new(), f);
+    let mut state = (HashMap::new(), f, None);
     let answer = it.drive(&mut state, &crate::fold_by_key::FoldByKeyTurn { init });
-    let (folds, _) = state;
+    let (folds, _, _) = state;
     match answer {
         Ok(None) => Ok(folds),
         Ok(Some(e)) | Err(e) => Err(e),

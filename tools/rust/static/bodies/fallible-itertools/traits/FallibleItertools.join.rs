@@ -1,5 +1,5 @@
 // changed: no allocator is passed; nothing is refused
-// proved: cd83cc91
+// proved: 608d01e0
 fn join(mut self, separator: &str) -> Result<String, Self::Error>
 where
     Self::Item: Display,

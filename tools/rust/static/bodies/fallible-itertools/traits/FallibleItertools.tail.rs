@@ -1,5 +1,5 @@
 // changed: no allocator is passed; nothing is refused
-// proved: a0006bca
+// proved: 86efa4db
 fn tail(mut self, n: usize) -> Result<VecDeque<Self::Item>, Self::Error>
 {
     let mut kept = VecDeque::new();

@@ -1,0 +1,3 @@
+-- What follows from the definitions: the lemmas that ghost members cite.
+pub mod RowTraces
+pub mod Rows

@@ -1,0 +1,2 @@
+-- What follows from the definitions: the lemmas that ghost members cite.
+pub mod Tables
