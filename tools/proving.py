@@ -1,4 +1,5 @@
-"""How `tools/edits` and `tools/check_one` ask `rattle check` for single functions, over libraries that are built."""
+"""How `tools/edits` and `tools/check_one` ask `rattle check` for single functions, over libraries that are built; and the edits of
+the crates, as files have them: in blocks, each below a line `# NAME`, or one alone, which has the file's name."""
 import os
 import pathlib
 import shutil
@@ -46,3 +47,21 @@ def words_of(crate, crates, place):
     for it in crate.below(crates):
         words += ["-L", f"dependency={rlib(it).parent}"]
     return words + ["--antt-project", f"{kit}/rattle/logic/antt-project.json", "--logic-built", f"{kit}/logic_built"]
+
+
+def files(crate):
+    """The files of edits of a crate's folder, but of `out/`."""
+    return [path for path in sorted(crate.rglob("*.edit")) if path.relative_to(crate).parts[0].endswith("-edits")]
+
+
+def blocks(file):
+    """Each edit of a file: its name, the number of its first line, and its lines."""
+    name, first, lines = file.stem, 1, []
+    for number, line in enumerate(file.read_text(encoding="utf-8").split("\n"), 1):
+        if line.startswith("# "):
+            if any(lines) or name != file.stem:
+                yield name, first, lines
+            name, first, lines = line[2:].strip(), number + 1, []
+        else:
+            lines.append(line)
+    yield name, first, lines

@@ -1,6 +1,20 @@
 """docs/CALLERS.md: each caller of the crates `example_..`, with what it alone shows, its sentence, its lines of proof and its laws.
 
-It also says what the public calls are, and which of them a function makes: `tools/check_callers` compares the two.
+It also says which public calls no proved caller makes, so that a test alone would show that they can be made, for
+`tools/check callers`.
+
+Public calls are those of the traits in TRAITS, the functions that `fallible_iterator` and
+`fallible_itertools` hand on, and the public methods of the types that they hand on. Left out are the hidden calls, which types write and callers don't call,
+`new` of an adapter, which the library's trait calls, and laws, which proofs cite and nothing runs.
+
+Callers are the functions of the crates of crates.txt that are neither the library's nor tests: those below a heading that
+begins with `# Tests`.
+
+A call counts if what it stands on is known to be an iterator of the library, or a value of the type whose method it is: a
+parameter that a trait bounds, what a function of the library made, a field, or what a call, a `let`, `?` or a pattern makes
+of such a one. So a call of std's with the same name hides nothing. A call of `IteratorExt` counts on whatever it stands,
+since no call of std's has its name, and a function if its file imports it from the library. What is called in a form that
+`made/receivers.py` doesn't read is told too: it wants a plainer caller.
 """
 
 import collections
@@ -74,6 +88,17 @@ def calls_made(crates):
         for function in code.functions(path):
             calls = receivers.Body(function, world).calls() if function.body else ()
             yield path, function, [(owner, name) for owner, name in calls if owner or name in imported]
+
+
+def uncalled(crates):
+    """Prints each public call that no proved caller makes, and how many there are. The status."""
+    files, public = files_of_callers(crates), list(dict.fromkeys(public_calls(crates)))
+    made = {call for _, _, calls in calls_made(crates) for call in calls}
+    missing = [call for call in public if call not in made]
+    for owner, name in missing:
+        print(f"no proved caller calls {f'{owner}::{name}' if owner else name}")
+    print(f"public calls: {len(public)}, files of proved callers: {len(files)}, calls that none of these makes: {len(missing)}")
+    return 1 if missing else 0
 
 
 def shown_alone(crates):

@@ -2,7 +2,7 @@
 
 import re
 
-import edit_blocks
+import proving
 from made import belief
 from made.callers import callers
 from made.code import lines_of
@@ -18,7 +18,7 @@ def count_of(pattern, files):
 
 def edits(crates, folder):
     """How many edits the crates have in folders of this name."""
-    return sum(len(list(edit_blocks.blocks(path))) for path in crates.glob(f"*/{folder}/**/*.edit"))
+    return sum(len(list(proving.blocks(path))) for path in crates.glob(f"*/{folder}/**/*.edit"))
 
 
 def figures(crates):
