@@ -123,7 +123,7 @@ ITERTOOLS = [
     (r"all_unique\.rs", r"^use fallible_iterator::\{Fault, Turn\};", "use fallible_iterator::Turn;", 1),
     (r"sorted\.rs", r"^use fallible_iterator::\{Fault, Turn\};", "use fallible_iterator::Turn;", 1),
     (r"traits\.rs", r"^use fallible_iterator::\{Collect, FallibleIterator, Fault, Into", "use fallible_iterator::"
-     "fallible_contract::collecting::{CollectTurn, Extended};\nuse fallible_iterator::{FallibleIterator, Into", 1),
+     "fallible_contract::collecting::Extended;\nuse fallible_iterator::{FallibleIterator, Into", 1),
     (r"join\.rs", r"^use core::fmt::Display;", "use alloc::string::String;\nuse core::fmt::{Display, Write};", 1),
     # The trait of the Rust crate is for types without a size too.
     (r"(?:traits|double_ended|.*/peeking_take_while)\.rs", r"^(pub trait \w+: \w+) \{", r"\1 + Sized {", 3),

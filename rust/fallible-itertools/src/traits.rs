@@ -2,11 +2,11 @@
 
 #[cfg(feature = "std")]
 use crate::all_unique::{AllUniqueTurn, unique_or_fault};
+use crate::base::Extended;
 use crate::base::drive::Drive;
 use crate::base::drive::whole;
 #[cfg(feature = "alloc")]
 use crate::base::gathering::gathered;
-use crate::base::{CollectTurn, Extended};
 use crate::base::{
     CollectTurn, FindTest, FindTurn, ForEachTurn, PositionTurn, ReadEq, Reading, answer_or,
     answer_or_none, found, ordered,

@@ -144,7 +144,7 @@ pub trait HoldText {
 impl HoldText for Vec<u8> {
     fn hold_row(&mut self, row: &Row, format: Format<'_>) -> bool {
         self.clear();
-        write_row(row, format, self).is_ok()
+        write_row(row, format, &mut program_io::memory::VecWriter(self)).is_ok()
     }
 
     fn held(&self) -> &[u8] {

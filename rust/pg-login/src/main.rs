@@ -1,12 +1,12 @@
 //! Logs in at a PostgreSQL server, without TLS, sends it a query, and prints what it returns, each row as it comes: as `psql -A` does, without the count of rows, or with `--csv` as `psql --csv`. It tells of the notices on standard error. The README has the words and the variables.
 //!
-//! It ends with status 1 if the server refuses the session or a statement, 2 if a read fails, there is no connection or no password, or the words or variables are others, 4 if a write fails, 5 at damage, 6 if the bytes are cut, 7 at COPY and another proof of identity, and 8 if the server doesn't prove that it knows the password.
+//! It ends with status 1 if the server refuses the session or a statement, 2 if a read fails, there is no connection or no password, or the words or variables are others, 4 if a write fails, 5 at damage, 6 if the bytes are cut, 7 at `COPY .. FROM STDIN` and another proof of identity, and 8 if the server doesn't prove that it knows the password.
 //!
 //! Messages, rows, the words of SCRAM and when the server's proof is accepted are those of the crate `fallible-pg`, whose bodies are proved ones. The rest is written by hand.
+use beside::{Beside, Shared};
 use fallible_iterator::FallibleIterator;
 use fallible_pg::*;
 use hash::{MOST_ROUNDS, Sha};
-use names::{Named, Shared};
 use place::Place;
 use program_io::ending::ended;
 use std::cell::RefCell;
@@ -19,9 +19,9 @@ use std::rc::Rc;
 use std::time::Duration;
 use words::{Asked, USAGE, Wanted, asked_by};
 
+mod beside;
 mod cancel;
 mod hash;
-mod names;
 mod place;
 mod words;
 
@@ -123,6 +123,8 @@ enum Stopped {
     Unproved,
     /// what is to be sent is longer than a server takes
     Long,
+    /// there is no connection: where, and why
+    Unreached(String),
 }
 
 fn stopped_by(fault: PgFault) -> Stopped {
@@ -279,15 +281,60 @@ fn start(
     Err(stopped_by(PgFault::Damaged(read, Damage::Cut)))
 }
 
-/// Logs in, sends the query, prints its rows, tells `errors` of its notices, and ends the session.
+/// Whether libpq tries the next server after this end of a log-in: there is no connection, it takes too long, or the server can take no session now.
+fn is_for_next(stopped: &Stopped) -> bool {
+    match stopped {
+        Stopped::Unreached(_) => true,
+        Stopped::Run(RunFault::Read(failed)) => {
+            let kind = failed.io_error().map(|error| error.kind());
+            matches!(kind, Some(ErrorKind::WouldBlock | ErrorKind::TimedOut))
+        }
+        Stopped::Run(RunFault::Input(PgInput::Server(message))) => message
+            .body()
+            .split(|byte| *byte == 0)
+            .any(|field| field == b"C57P03"),
+        _ => false,
+    }
+}
+
+/// Runs over the first server that takes a session. What is told of those before it, if none does.
 fn run(
-    socket: &Socket,
+    places: Vec<Place>,
+    wanted: &Wanted,
+    query: &str,
+    output: impl Write,
+    errors: &mut impl Write,
+) -> Result<(), Stopped> {
+    let (mut left, mut before, mut output) = (places.len(), Vec::new(), output);
+    for place in places {
+        left -= 1;
+        match run_at(place, wanted, query, &mut output, errors) {
+            Ok(done) => return done,
+            Err(stopped) if left > 0 && is_for_next(&stopped) => {
+                told(Err(stopped), &mut before);
+            }
+            Err(stopped) => {
+                // Where it can't be told the status tells it.
+                let _ = errors.write_all(&before);
+                return Err(stopped);
+            }
+        }
+    }
+    Ok(())
+}
+
+/// Logs in at a server, sends the query, prints its rows, tells `errors` of its notices, and ends the session. An `Err` where there was no session.
+fn run_at(
     place: Place,
     wanted: &Wanted,
     query: &str,
+    output: impl Write,
     errors: &mut impl Write,
-) -> Result<(), Stopped> {
+) -> Result<Result<(), Stopped>, Stopped> {
     let read_failed = |error: std::io::Error| Stopped::Run(RunFault::Read(error.into()));
+    let socket = &Socket::open(&place).map_err(|error| {
+        Stopped::Unreached(format!("{}, port {}: {error}", place.host, place.port))
+    })?;
     let mut reader = Buffered::new(BufReader::new(socket));
     let mut writer = socket;
     let password = place.password();
@@ -305,35 +352,44 @@ fn run(
         // Without it Ctrl-C ends the program.
         let _ = cancel::cancels(place, key);
     }
-    send(&mut writer, query_message(query))?;
+    if let Err(stopped) = send(&mut writer, query_message(query)) {
+        return Ok(Err(stopped));
+    }
     let messages = Messages::unbuffered(reader);
-    let printed = print(messages, wanted, errors);
+    let printed = print(messages, wanted, output, errors);
     // The server ends the session too where the connection is closed.
     let _ = send(&mut writer, terminate_message());
-    printed.map_err(Stopped::Run)
+    Ok(printed.map_err(Stopped::Run))
 }
 
-/// Prints the rows that messages bring.
+/// Prints the rows that messages bring, the names of their columns, and the data of COPY.
 fn print<R: ReadMessage>(
     messages: Messages<R>,
     wanted: &Wanted,
+    output: impl Write,
     errors: &mut impl Write,
 ) -> Result<(), RunFault<PgInput>> {
     let format = Format {
         null: wanted.null.as_bytes(),
         csv: wanted.csv,
     };
-    let mut output = Shared(Rc::new(RefCell::new(stdout().lock())));
-    if wanted.rows_only {
-        let mut rows = Rows::new(messages);
-        return print_rows(&mut rows, format, &mut Vec::new(), &mut output, errors);
-    }
-    let named = Named::new(messages, format, output.clone());
-    let stopped = named.stopped();
-    let mut rows = Rows::new(Messages::unbuffered(named));
+    let mut output = Shared(Rc::new(RefCell::new(output)));
+    let beside = Beside::new(messages, format, !wanted.rows_only, output.clone());
+    let seen = beside.seen();
+    let mut rows = Rows::new(Messages::unbuffered(beside));
     let printed = print_rows(&mut rows, format, &mut Vec::new(), &mut output, errors);
-    let why = stopped.borrow_mut().take();
-    why.map_or(printed, Err)
+    let mut seen = seen.borrow_mut();
+    match (seen.stopped.take(), printed) {
+        (Some(why), _) => Err(why),
+        (None, Err(RunFault::Input(PgInput::Damaged(place, damage)))) => {
+            // The rows know nothing of what was printed beside them.
+            Err(RunFault::Input(PgInput::Damaged(
+                place + seen.copied,
+                damage,
+            )))
+        }
+        (None, printed) => printed,
+    }
 }
 
 /// Says why no more rows were printed. The status.
@@ -367,6 +423,7 @@ fn told(stopped: Result<(), Stopped>, errors: &mut impl Write) -> u8 {
             8,
             "the server doesn't prove that it knows the password".into(),
         ),
+        Err(Stopped::Unreached(why)) => (2, why),
         Err(Stopped::Long) => (2, "the query is longer than a server takes".into()),
     };
     let _ = writeln!(errors, "{line}");
@@ -413,19 +470,18 @@ fn main() -> ExitCode {
         Ok(Asked::Rows(wanted)) => wanted,
         Err(why) => return refused(format!("{why}\n{USAGE}")),
     };
-    let place = match Place::of_variables(std::env::vars_os()) {
-        Ok(place) => place,
+    let places = match Place::of_variables(std::env::vars_os()) {
+        Ok(places) => places,
         Err(why) => return refused(why),
     };
     let query = match wanted.query.clone().map_or_else(statements, Ok) {
         Ok(query) => query,
         Err(why) => return refused(why),
     };
-    let socket = match Socket::open(&place) {
-        Ok(socket) => socket,
-        Err(error) => return refused(format!("{}, port {}: {error}", place.host, place.port)),
-    };
     let mut errors = stderr();
-    let stopped = run(&socket, place, &wanted, &query, &mut errors);
+    let stopped = run(places, &wanted, &query, stdout().lock(), &mut errors);
     ExitCode::from(told(stopped, &mut errors))
 }
+
+#[cfg(test)]
+mod tests;

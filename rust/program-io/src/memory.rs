@@ -207,3 +207,26 @@ impl<R: std::io::Read> TryBuffer<R> for std::io::BufReader<R> {
         Ok(std::io::BufReader::with_capacity(capacity, reader))
     }
 }
+
+/// A writer after a `Vec`'s bytes, which fails where that can't grow: std's own ends the program there.
+#[cfg(feature = "std")]
+#[derive(Debug)]
+pub struct VecWriter<'a>(pub &'a mut Vec<u8>);
+
+#[cfg(feature = "std")]
+impl std::io::Write for VecWriter<'_> {
+    #[inline]
+    fn write(&mut self, bytes: &[u8]) -> std::io::Result<usize> {
+        self.write_all(bytes)?;
+        Ok(bytes.len())
+    }
+
+    #[inline]
+    fn write_all(&mut self, bytes: &[u8]) -> std::io::Result<()> {
+        Ok(self.0.try_extend_from_slice(bytes)?)
+    }
+
+    fn flush(&mut self) -> std::io::Result<()> {
+        Ok(())
+    }
+}

@@ -47,8 +47,20 @@ pub trait ReadLine: ReadBytes {
 impl<R: BufRead> ReadLine for R {
     fn read_first_line(&mut self) -> io::Result<Vec<u8>> {
         let mut line = Vec::new();
-        self.read_until(b'\n', &mut line)?;
-        Ok(line)
+        loop {
+            let held = match self.fill_buf() {
+                Ok(held) => held,
+                Err(error) if error.kind() == ErrorKind::Interrupted => continue,
+                Err(error) => return Err(error),
+            };
+            let end = held.iter().position(|byte| *byte == b'\n');
+            let count = end.map_or(held.len(), |place| place + 1);
+            line.try_extend_from_slice(&held[..count])?;
+            self.consume(count);
+            if end.is_some() || count == 0 {
+                return Ok(line);
+            }
+        }
     }
 }
 

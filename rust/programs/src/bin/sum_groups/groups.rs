@@ -128,7 +128,7 @@ fn print_line(
     name: u64,
     rows: &[Row],
 ) -> Result<Vec<u8>, RunFault<GroupsFault>> {
-    match write_line(&mut report, name, rows) {
+    match write_line(&mut program_io::memory::VecWriter(&mut report), name, rows) {
         Ok(()) => Ok(report),
         // No memory: writing to a vector fails only if an allocation does.
         Err(_) => Err(RunFault::Memory),

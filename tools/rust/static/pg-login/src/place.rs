@@ -1,7 +1,7 @@
 //! Where the server is, and who asks, by the variables and the file that libpq reads.
 use std::ffi::OsString;
 use std::fs;
-use std::io::{stderr, Write};
+use std::io::{Write, stderr};
 use std::net::IpAddr;
 use std::os::unix::fs::PermissionsExt;
 use std::path::PathBuf;
@@ -9,7 +9,7 @@ use std::process::Command;
 use std::time::Duration;
 
 /// A server, a database and a user.
-#[derive(Debug, Default)]
+#[derive(Clone, Debug, Default)]
 pub struct Place {
     pub host: String,
     /// The address of the host, where it is said.
@@ -23,6 +23,14 @@ pub struct Place {
     pub parameters: Vec<(&'static str, String)>,
     password: Option<String>,
     pass_file: Option<PathBuf>,
+}
+
+/// What variables say, as lists, of the servers that are tried in order.
+#[derive(Debug, Default)]
+struct Servers {
+    hosts: Option<String>,
+    addresses: Option<String>,
+    ports: Option<String>,
 }
 
 /// What a session is told by a variable: the variable, and the name there.
@@ -61,12 +69,67 @@ fn system_user() -> Option<String> {
     Some(name.trim_end().to_string()).filter(|name| !name.is_empty())
 }
 
+/// What a list says of the server at a place: none, where that is empty. One port is that of all.
+fn at(list: &Option<String>, place: usize) -> Option<&str> {
+    let mut items: Vec<&str> = list.as_deref()?.split(',').collect();
+    if items.len() == 1 {
+        items.resize(place + 1, items[0]);
+    }
+    items.get(place).copied().filter(|item| !item.is_empty())
+}
+
+impl Servers {
+    /// How many there are, as libpq counts them: by the addresses, else by the hosts.
+    fn count(&self) -> Result<usize, String> {
+        let count_of = |list: &Option<String>| list.as_ref().map(|list| list.split(',').count());
+        let (hosts, addresses) = (count_of(&self.hosts), count_of(&self.addresses));
+        let count = addresses.or(hosts).unwrap_or(1);
+        for (name, counted, may_be_one) in [
+            ("PGHOST", hosts, false),
+            ("PGPORT", count_of(&self.ports), true),
+        ] {
+            if let Some(counted) = counted.filter(|n| *n != count && !(may_be_one && *n == 1)) {
+                return Err(format!("{name} has {counted} items, for {count} servers"));
+            }
+        }
+        Ok(count)
+    }
+
+    /// The server at a place.
+    fn put(&self, index: usize, place: &mut Place) -> Result<(), String> {
+        if let Some(address) = at(&self.addresses, index) {
+            let address = address.parse();
+            place.address = Some(address.or_else(|_| refused("PGHOSTADDR", &self.addresses))?);
+        }
+        let host = at(&self.hosts, index);
+        if host.is_some_and(|host| host.starts_with('@')) {
+            return refused("PGHOST", &self.hosts);
+        }
+        place.host = match (host, place.address) {
+            (Some(host), _) => host.into(),
+            (None, Some(address)) => address.to_string(),
+            (None, None) => SOCKETS.into(),
+        };
+        place.port = match at(&self.ports, index).map_or(Ok(5432), str::parse) {
+            Ok(port) if port > 0 => port,
+            _ => return refused("PGPORT", &self.ports),
+        };
+        Ok(())
+    }
+}
+
+/// That a variable isn't honoured at what it says.
+fn refused<T>(name: &str, value: &Option<String>) -> Result<T, String> {
+    let value = value.as_deref().unwrap_or_default();
+    Err(format!("{name} is {value:?}, which this client doesn't do"))
+}
+
 impl Place {
-    /// That of the variables: by default the server's Unix socket, port 5432, the user who runs the program, and the database of that name. A variable that libpq reads, and that isn't honoured here, is refused; so is one with a value that isn't known. Why there is no place.
+    /// Those of the variables, at each of the servers, in their order: by default the server's Unix socket, port 5432, the user who runs the program, and the database of that name. A variable that libpq reads, and that isn't honoured here, is refused; so is one with a value that isn't known. Why there is no place.
     pub fn of_variables(
         variables: impl Iterator<Item = (OsString, OsString)>,
-    ) -> Result<Place, String> {
-        let mut place = Place::default();
+    ) -> Result<Vec<Place>, String> {
+        let (mut place, mut servers) = (Place::default(), Servers::default());
         for (name, value) in variables.filter(|(_, value)| !value.is_empty()) {
             if name == "HOME" && place.pass_file.is_none() {
                 place.pass_file = Some(PathBuf::from(value).join(".pgpass"));
@@ -74,17 +137,13 @@ impl Place {
                 let value = value
                     .into_string()
                     .map_err(|_| format!("{name} is no UTF-8"))?;
-                place.take(name, value)?;
+                match name {
+                    "PGHOST" => servers.hosts = Some(value),
+                    "PGHOSTADDR" => servers.addresses = Some(value),
+                    "PGPORT" => servers.ports = Some(value),
+                    _ => place.take(name, value)?,
+                }
             }
-        }
-        if place.host.is_empty() {
-            place.host = match place.address {
-                Some(address) => address.to_string(),
-                None => SOCKETS.into(),
-            };
-        }
-        if place.port == 0 {
-            place.port = 5432;
         }
         if place.user.is_empty() {
             place.user = system_user().ok_or("PGUSER isn't set, and who runs it isn't known")?;
@@ -97,25 +156,28 @@ impl Place {
             .iter()
             .any(|(name, _)| *name == "application_name")
         {
-            place.parameters.push(("application_name", "pg_login".into()));
+            place
+                .parameters
+                .push(("application_name", "pg_login".into()));
         }
-        Ok(place)
+        let mut places = vec![place; servers.count()?];
+        for (index, place) in places.iter_mut().enumerate() {
+            servers.put(index, place)?;
+        }
+        Ok(places)
     }
 
     /// Takes what a variable says.
     fn take(&mut self, name: &str, value: String) -> Result<(), String> {
-        let refused = || format!("{name} is {value:?}, which this client doesn't do");
         match name {
-            "PGHOST" if value.contains(',') || value.starts_with('@') => return Err(refused()),
-            "PGHOST" => self.host = value,
-            "PGHOSTADDR" => self.address = Some(value.parse().or(Err(refused()))?),
-            "PGPORT" => self.port = value.parse().ok().filter(|n| *n > 0).ok_or_else(refused)?,
             "PGUSER" => self.user = value,
             "PGDATABASE" => self.database = value,
             "PGPASSWORD" => self.password = Some(value),
             "PGPASSFILE" => self.pass_file = Some(value.into()),
             "PGCONNECT_TIMEOUT" => {
-                let seconds: i32 = value.parse().or(Err(refused()))?;
+                let Ok(seconds) = value.parse::<i32>() else {
+                    return refused(name, &Some(value));
+                };
                 // As libpq: none at 0 or below, and 2 seconds at least.
                 self.timeout = u64::try_from(seconds)
                     .ok()
@@ -123,8 +185,7 @@ impl Place {
                     .map(|seconds| Duration::from_secs(seconds.max(2)));
             }
             _ => {
-                if let Some((_, told)) = PARAMETERS.iter().find(|(variable, _)| *variable == name)
-                {
+                if let Some((_, told)) = PARAMETERS.iter().find(|(variable, _)| *variable == name) {
                     let is_default = value.eq_ignore_ascii_case("default")
                         && !["PGAPPNAME", "PGOPTIONS"].contains(&name);
                     if !is_default {
@@ -134,7 +195,7 @@ impl Place {
                     .iter()
                     .any(|(variable, values)| *variable == name && values.contains(&&*value))
                 {
-                    return Err(refused());
+                    return refused(name, &Some(value));
                 }
             }
         }
@@ -223,9 +284,53 @@ mod tests {
         }
     }
 
-    fn of(variables: &[(&str, &str)]) -> Result<Place, String> {
-        let pairs = variables.iter().map(|(name, value)| (name.into(), value.into()));
+    fn all_of(variables: &[(&str, &str)]) -> Result<Vec<Place>, String> {
+        let pairs = variables
+            .iter()
+            .map(|(name, value)| (name.into(), value.into()));
         Place::of_variables(pairs)
+    }
+
+    /// The one place.
+    fn of(variables: &[(&str, &str)]) -> Result<Place, String> {
+        let mut places = all_of(variables)?;
+        assert_eq!(places.len(), 1);
+        Ok(places.remove(0))
+    }
+
+    #[test]
+    fn several_servers_stand_in_their_order() {
+        let user = ("PGUSER", "me");
+        let found = |variables: &[(&str, &str)]| {
+            let places = all_of(&[&[user], variables].concat())?;
+            let told = places
+                .iter()
+                .map(|it| format!("{} {:?} {}", it.host, it.address, it.port));
+            Ok::<_, String>(told.collect::<Vec<_>>())
+        };
+        let two = found(&[("PGHOST", "a,/b"), ("PGPORT", "6,7")]).unwrap();
+        assert_eq!(two, ["a None 6", "/b None 7"]);
+        let one_port = found(&[("PGHOST", "a,"), ("PGPORT", "6")]).unwrap();
+        assert_eq!(one_port, ["a None 6", "/var/run/postgresql None 6"]);
+        let default = found(&[("PGHOST", "a,b"), ("PGPORT", ",7")]).unwrap();
+        assert_eq!(default, ["a None 5432", "b None 7"]);
+        let addresses = found(&[("PGHOSTADDR", "::1,127.0.0.1")]).unwrap();
+        assert_eq!(
+            addresses,
+            ["::1 Some(::1) 5432", "127.0.0.1 Some(127.0.0.1) 5432"]
+        );
+        for (variables, why) in [
+            (
+                [("PGHOST", "a,b"), ("PGPORT", "1,2,3")],
+                "PGPORT has 3 items, for 2 servers",
+            ),
+            (
+                [("PGHOST", "a"), ("PGHOSTADDR", "::1,::1")],
+                "PGHOST has 1 items, for 2 servers",
+            ),
+        ] {
+            assert_eq!(found(&variables), Err(why.into()));
+        }
     }
 
     #[test]
@@ -281,11 +386,9 @@ mod tests {
         let local = of(&[user]).unwrap();
         assert_eq!(local.socket().unwrap(), "/var/run/postgresql/.s.PGSQL.5432");
         for (name, value) in [
-            ("PGHOST", "a,b"),
             ("PGHOST", "@a"),
             ("PGHOSTADDR", "example.org"),
             ("PGPORT", "0"),
-            ("PGPORT", "5432,5433"),
             ("PGCONNECT_TIMEOUT", "long"),
             ("PGSERVICE", "a"),
             ("PGSERVICEFILE", "a"),
