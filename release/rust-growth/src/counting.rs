@@ -3,20 +3,29 @@ use std::alloc::{GlobalAlloc, Layout, System};
 use std::sync::atomic::{AtomicBool, AtomicI64, Ordering::Relaxed};
 
 /// How many figures a run has.
-pub const FIGURES: usize = 7;
+pub const FIGURES: usize = 8;
 
 /// What each figure counts.
-pub const HEADS: [&str; FIGURES] =
-    ["Draws", "Closures", "Compared", "Clones", "Allocations", "Bytes", "Most bytes held"];
+pub const HEADS: [&str; FIGURES] = [
+    "Instructions",
+    "Draws",
+    "Closures",
+    "Compared",
+    "Clones",
+    "Allocations",
+    "Bytes",
+    "Most bytes held",
+];
 
 /// The places of figures.
-pub const DRAWS: usize = 0;
-pub const CLOSURES: usize = 1;
-pub const COMPARED: usize = 2;
-pub const CLONES: usize = 3;
-const ALLOCATIONS: usize = 4;
-pub const BYTES: usize = 5;
-pub const HELD: usize = 6;
+pub const INSTRUCTIONS: usize = 0;
+pub const DRAWS: usize = 1;
+pub const CLOSURES: usize = 2;
+pub const COMPARED: usize = 3;
+pub const CLONES: usize = 4;
+const ALLOCATIONS: usize = 5;
+pub const BYTES: usize = 6;
+pub const HELD: usize = 7;
 
 static COUNTS: [AtomicI64; FIGURES] = [const { AtomicI64::new(0) }; FIGURES];
 static LIVE: AtomicI64 = AtomicI64::new(0);
@@ -36,12 +45,18 @@ pub fn made_by_source<T>(make: impl FnOnce() -> T) -> T {
 
 /// The figures of a run.
 pub fn figures_of(run: impl FnOnce()) -> [i64; FIGURES] {
-    for count in &COUNTS {
-        count.store(0, Relaxed);
-    }
-    LIVE.store(0, Relaxed);
-    run();
-    std::array::from_fn(|figure| COUNTS[figure].load(Relaxed))
+    let mut figures = [0; FIGURES];
+    // (what is asked of callgrind allocates too)
+    let instructions = crate::callgrind::instructions_of(|| {
+        for count in &COUNTS {
+            count.store(0, Relaxed);
+        }
+        LIVE.store(0, Relaxed);
+        run();
+        figures = std::array::from_fn(|figure| COUNTS[figure].load(Relaxed));
+    });
+    figures[INSTRUCTIONS] = instructions;
+    figures
 }
 
 struct Counting;

@@ -91,7 +91,7 @@ pub const CONSUMERS: &[Row] = &[
     row("fold_by_key", FLAT, Keys, EQUALS, |s, _| {
         again(s, |it| it.fold_by_key(|x| called(x.key), Item::default(), |_, x| called(x)))
     }),
-    row("all_unique", FLAT, Keys, EQUALS, |s, _| again(s, |it| it.all_unique())),
+    row("all_unique", FLAT, Keys, ORDERS, |s, _| again(s, |it| it.all_unique())),
     row("all_equal", FLAT, Few, EQUALS, |s, _| again(s, |it| it.all_equal())),
     row("all_equal_value", FLAT, Few, EQUALS, |s, _| again(s, |it| it.all_equal_value())),
     row("contains", FLAT, Few, EQUALS, |s, _| {

@@ -2,6 +2,9 @@
 //!
 //!     rust-growth          the table, and on standard error each figure that grows by more than its class; then the status is 1
 //!     rust-growth calls    the names of the calls that have a row
+//!
+//! It counts instructions where callgrind runs it, and CALLGRIND_FILE names the file that callgrind writes.
+mod callgrind;
 mod counting;
 mod input;
 mod iterator;
@@ -9,7 +12,7 @@ mod itertools;
 mod probes;
 mod rows;
 
-use counting::{figures_of, BYTES, FIGURES, HEADS, HELD};
+use counting::{figures_of, BYTES, DRAWS, FIGURES, HEADS, HELD, INSTRUCTIONS};
 use input::{Input, Shape, Way};
 use rows::{Growth, Held, Row};
 
@@ -19,10 +22,15 @@ const K: u64 = 16;
 
 /// The figures that grow by more than their class, and are known to: the call, the shape, and the figure.
 const KNOWN: &[(&str, Shape, usize)] = &[
+    ("chunks", Shape::Failing, INSTRUCTIONS),
     ("chunks", Shape::Failing, BYTES),
+    ("chunks, all kept", Shape::Failing, INSTRUCTIONS),
     ("chunks, all kept", Shape::Failing, BYTES),
     ("chunks, all kept", Shape::Failing, HELD),
 ];
+
+/// What a figure may grow by besides.
+const SLACK: f64 = 1.15;
 
 type Figures = [i64; FIGURES];
 
@@ -53,9 +61,14 @@ fn allowed(growth: Growth, from: u64, to: u64) -> f64 {
     }
 }
 
-/// What a figure may have at once, whatever is drawn: some calls, or some hundred bytes, for each of so many items.
+/// What a figure may have at once for each of so many items, whatever is drawn.
 fn at_once(figure: usize, items: u64) -> f64 {
-    (items * if figure >= BYTES { 128 } else { 4 }) as f64
+    let each = match figure {
+        INSTRUCTIONS => 500,
+        BYTES | HELD => 128,
+        _ => 4,
+    };
+    (items * each) as f64
 }
 
 /// How a row's figures grow over a shape.
@@ -107,7 +120,7 @@ impl Measured {
                 } else {
                     grown
                 };
-                if grown > 1.1 * allowed(growth, from, to) {
+                if grown > SLACK * allowed(growth, from, to) {
                     above.push((figure, said(row, self, figure, which, step, grown)));
                 }
             }
@@ -115,16 +128,21 @@ impl Measured {
         above
     }
 
-    /// The cells of its line, but for its shape.
+    /// The instructions of an item.
+    fn instructions(&self) -> i64 {
+        self.by_n[2][INSTRUCTIONS] / (4 * N) as i64
+    }
+
+    /// The cells of its line after its shape and its instructions.
     fn cells(&self, row: &Row) -> Vec<String> {
         let n = (4 * N) as f64;
         let mut cells: Vec<String> =
-            (0..HELD).map(|figure| shown(self.by_n[2][figure] as f64 / n)).collect();
+            (DRAWS..HELD).map(|figure| shown(self.by_n[2][figure] as f64 / n)).collect();
         let held = self.by_n[2][HELD].max(0);
         cells.push(if held == 0 { String::new() } else { held.to_string() });
         for which in 0..2 {
             let most = (0..HELD).map(|figure| self.grown(figure, 2)[which]).fold(0.0, f64::max);
-            cells.push(if most > 1.1 { format!("{most:.1}") } else { String::new() });
+            cells.push(if most > SLACK { format!("{most:.1}") } else { String::new() });
         }
         cells.push(class(row, self.shape));
         cells
@@ -176,20 +194,50 @@ fn named(call: &str) -> (&str, &str) {
     call.split_at(call.find(',').unwrap_or(call.len()))
 }
 
-/// A row's lines, without its call. Shapes with the same figures share one.
-fn lines(row: &Row, measured: &[Measured]) -> Vec<String> {
-    let mut lines: Vec<(Vec<&str>, String)> = Vec::new();
+/// A line of the table, but for its calls.
+struct Line {
+    shapes: Vec<&'static str>,
+    /// The least and the most instructions.
+    instructions: [i64; 2],
+    cells: String,
+}
+
+impl Line {
+    fn same(&self, other: &Line) -> bool {
+        self.shapes == other.shapes && self.cells == other.cells
+    }
+
+    fn widen(&mut self, other: [i64; 2]) {
+        let [least, most] = self.instructions;
+        self.instructions = [least.min(other[0]), most.max(other[1])];
+    }
+
+    fn print(&self, calls: &str) {
+        let [least, most] = self.instructions;
+        let instructions =
+            if least == most { least.to_string() } else { format!("{least} to {most}") };
+        println!("| {calls} | {} | {instructions} | {} |", self.shapes.join(", "), self.cells);
+    }
+}
+
+/// A row's lines. Shapes with the same figures but for instructions share one.
+fn lines(row: &Row, measured: &[Measured]) -> Vec<Line> {
+    let mut lines: Vec<Line> = Vec::new();
     for it in measured {
         let mut cells = it.cells(row).join(" | ");
         if known(row, it.shape).next().is_some() {
             cells.push_str(", and it is above");
         }
-        match lines.iter_mut().find(|(_, others)| *others == cells) {
-            Some((shapes, _)) => shapes.push(it.shape.name()),
-            None => lines.push((vec![it.shape.name()], cells)),
+        let instructions = [it.instructions(); 2];
+        match lines.iter_mut().find(|line| line.cells == cells) {
+            Some(line) => {
+                line.shapes.push(it.shape.name());
+                line.widen(instructions);
+            }
+            None => lines.push(Line { shapes: vec![it.shape.name()], instructions, cells }),
         }
     }
-    lines.into_iter().map(|(shapes, cells)| format!("{} | {cells}", shapes.join(", "))).collect()
+    lines
 }
 
 /// The figures of a row over a shape that are known to grow by more than its class.
@@ -221,6 +269,22 @@ fn told_of(row: &Row, it: &Measured) -> bool {
     failed
 }
 
+/// Puts a row's lines to those of calls with the same, or behind them all.
+fn share(shared: &mut Vec<(Vec<String>, Vec<Line>)>, row: &Row, lines: Vec<Line>) {
+    let (name, how) = named(row.call);
+    let call = format!("`{name}`{how}");
+    let same = |others: &[Line]| {
+        others.len() == lines.len() && others.iter().zip(&lines).all(|(x, y)| x.same(y))
+    };
+    match shared.iter_mut().find(|(_, others)| same(others)) {
+        Some((calls, others)) => {
+            calls.push(call);
+            others.iter_mut().zip(lines).for_each(|(x, y)| x.widen(y.instructions));
+        }
+        None => shared.push((vec![call], lines)),
+    }
+}
+
 fn main() {
     if std::env::args().nth(1).as_deref() == Some("calls") {
         all_rows().for_each(|row| println!("{}", named(row.call).0));
@@ -233,27 +297,20 @@ fn main() {
             failed = true;
         }
     }
-    // Calls with the same lines share them.
-    let mut shared: Vec<(Vec<String>, Vec<String>)> = Vec::new();
+    let mut shared = Vec::new();
     for row in all_rows() {
         let measured: Vec<Measured> =
             row.shapes.iter().map(|shape| Measured::of(row, *shape)).collect();
         for it in &measured {
             failed |= told_of(row, it);
         }
-        let lines = lines(row, &measured);
-        let (name, how) = named(row.call);
-        let call = format!("`{name}`{how}");
-        match shared.iter_mut().find(|(_, others)| *others == lines) {
-            Some((calls, _)) => calls.push(call),
-            None => shared.push((vec![call], lines)),
-        }
+        share(&mut shared, row, lines(row, &measured));
     }
     println!("| Call | Shape | {} | By 4n | By 4k | Class |", HEADS.join(" | "));
     println!("|---{}|", "|---".repeat(FIGURES + 4));
     for (calls, lines) in shared {
         for line in lines {
-            println!("| {} | {line} |", calls.join(", "));
+            line.print(&calls.join(", "));
         }
     }
     std::process::exit(i32::from(failed));
