@@ -5,7 +5,7 @@ ghost use Rattle.fallible_itertools_adapters.specs.Positions.{positioned};
 ghost use Rattle.fallible_itertools_adapters.specs.declared.positions.Position.TheVariants.{First, Last, Middle, Only};
 
 /// Of two equal items that stand next to each other the first one is kept. A failure stands in its place.
-#[tactic(auto, unfolding(crate::specs::Dedup::deduped))]
+#[tactic(auto, unfolding(crate::specs::Coalesce::deduped))]
 pub fn law_deduped<T: PartialEq, E>()
     ensures none { deduped T.eq {E = E} [] ≡ [] }
     ensures one { (y : T) → deduped T.eq {E = E} (Ok y ∷ []) ≡ Ok y ∷ [] }
@@ -37,7 +37,7 @@ pub fn law_coalesced<T, E>()
 {}
 
 /// Of two items that the closure finds the same the first one is kept. If the closure fails on two, the first one is kept, and its failure stands in the place of the second one. A failure of the list stands in its place.
-#[tactic(auto, unfolding(crate::specs::DedupBy::deduped_by))]
+#[tactic(auto, unfolding(crate::specs::Coalesce::deduped_by))]
 pub fn law_deduped_by<T, E>()
     ensures none { (h : T → T → Result Bool E) → deduped_by h [] ≡ [] }
     ensures one { (h : T → T → Result Bool E) (y : T) → deduped_by h (Ok y ∷ []) ≡ Ok y ∷ [] }
@@ -54,7 +54,7 @@ pub fn law_deduped_by<T, E>()
 {}
 
 /// Of two items that stand next to each other and have equal keys the first one is kept. Where the closure fails, its failure stands in the place of the item. A failure of the list stands in its place.
-#[tactic(auto, unfolding(crate::specs::DedupByKey::deduped_by_key))]
+#[tactic(auto, unfolding(crate::specs::Coalesce::deduped_by_key))]
 pub fn law_deduped_by_key<T, K: PartialEq, E>()
     ensures none { (h : T → Result K E) → deduped_by_key K.eq h [] ≡ [] }
     ensures one { (h : T → Result K E) (y : T) (k : K) → h y ≡ Ok k
