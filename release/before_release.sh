@@ -30,6 +30,7 @@ speed|release/speed|the proof of fallible_speed, and then minutes
 elf_speed|release/elf_speed|the proof of fallible_elf and elf_walk, and then minutes; wants cargo and valgrind
 program_speed|release/program_speed|5 minutes; wants count_rows, sum_table, sum_groups, pg_rows and json_tokens proved, cargo, valgrind, GNU time, jq, g++ and apt
 rust_speed|release/rust_bench.sh|3 minutes; wants valgrind and apt
+growth|release/growth|5 minutes; wants cargo and valgrind
 beside|tools/rust_beside|3 minutes; wants cargo and apt
 clients|release/rust_clients|a quarter of an hour and more; wants cargo, PostgreSQL, SQLite, libclang and apt
 END
