@@ -17,7 +17,6 @@ pub use Rattle.fallible_itertools_adapters.specs.Laws.Tuples
 pub use Rattle.fallible_itertools_joins.specs.Laws.Interleave
 pub use Rattle.fallible_itertools_joins.specs.Laws.KMerge
 pub use Rattle.fallible_itertools_joins.specs.Laws.Merge
-pub use Rattle.fallible_itertools_joins.specs.Laws.OverTraces
 pub use Rattle.fallible_itertools_joins.specs.Laws.Zip
 pub use Rattle.fallible_itertools_joins.specs.Laws.Sides
-pub use Rattle.fallible_itertools_joins.specs.Laws.SidesTraces
+pub use Rattle.fallible_itertools_joins.specs.Laws.Taken
