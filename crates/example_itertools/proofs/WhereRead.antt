@@ -19,8 +19,8 @@ use Rattle.fallible_iterator.proofs.Lemmas.Lists.Drawn.{folded_of_lists}
 use Rattle.fallible_iterator.proofs.Lemmas.OneToOne.Map.{lists_mapped}
 use Rattle.fallible_iterator.proofs.Lemmas.WithoutFailure.{ok_steps, ListsWhereOk}
 use Rattle.fallible_itertools.specs.Failing.{or_else_outcome, or_else_parts, recovered, stop_after_parts, stop_after_step, stopped_after}
-use Rattle.fallible_itertools.proofs.Lemmas.OrElse.{lists_recovered}
-use Rattle.fallible_itertools.proofs.Lemmas.StopAfter.{lists_stopped}
+use Rattle.fallible_itertools.proofs.Lemmas.Failing.{lists_recovered}
+use Rattle.fallible_itertools.proofs.Lemmas.Failing.{lists_stopped}
 use Rattle.fallible_itertools.specs.AdapterTypes.failing.OrElse.{OrElse}
 use Rattle.fallible_itertools.specs.AdapterTypes.failing.StopAfter.{StopAfter}
 use Rattle.fallible_rows.specs.declared.fault.RowFault.{RowFault}

@@ -3,8 +3,8 @@ use Rattle.std.specs.Prelude.{◌≡◌, ◌-◌, ◌^◌, Ok, None}
 use Rattle.std.proofs.Common.{rules, ap, arith, ◌∙◌}
 use Rattle.fallible_iterator.specs.Lists.{counted, taken}
 use Rattle.fallible_itertools.specs.Failing.{recovered, stopped_after}
-use Rattle.fallible_itertools.proofs.Lemmas.OrElse.{taken_recovered}
-use Rattle.fallible_itertools.proofs.Lemmas.StopAfter.{length_stopped_after_taken}
+use Rattle.fallible_itertools.proofs.Lemmas.Failing.{taken_recovered}
+use Rattle.fallible_itertools.proofs.Lemmas.Failing.{length_stopped_after_taken}
 use Rattle.example_itertools.proofs.failing.good_of_thousand.Goals as goal
 
 pub returns : goal.returns

@@ -4,7 +4,7 @@ use Rattle.std.proofs.Common.{rules}
 use Rattle.fallible_iterator.specs.Lists.{results}
 use Rattle.fallible_itertools.specs.Coalesce.{deduped}
 use Rattle.fallible_itertools.proofs.Lemmas.Adjacent.{adjacent_of_collected}
-use Rattle.fallible_itertools.proofs.Lemmas.Dedup.{deduped_differ}
+use Rattle.fallible_itertools.proofs.Lemmas.Coalesce.{deduped_differ}
 use Rattle.example_itertools.proofs.ordering.without_repeats.Goals as goal
 
 pub returns-clause-differ : goal.returns-clause-differ
