@@ -17,6 +17,7 @@ pub mod StepLists
 pub mod Stepping
 pub mod Tail
 pub mod Total
+pub mod WithIndex
 pub use Rattle.fallible_itertools_adapters.proofs.Lemmas.Adjacent
 pub use Rattle.fallible_itertools_adapters.proofs.Lemmas.Ahead
 pub use Rattle.fallible_itertools_adapters.proofs.Lemmas.Staging

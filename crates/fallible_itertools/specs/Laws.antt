@@ -1,6 +1,7 @@
 -- What follows from the definitions: the lemmas that ghost members cite.
 pub mod Keyed
 pub mod Partition
+pub mod WithIndex
 pub use Rattle.fallible_itertools_adapters.specs.Laws.Ahead
 pub use Rattle.fallible_itertools_adapters.specs.Laws.Staging
 pub use Rattle.fallible_itertools_adapters.specs.Laws.Chunks

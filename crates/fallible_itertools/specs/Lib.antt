@@ -19,6 +19,7 @@ pub mod Sorted
 pub mod Stepping
 pub mod Tail
 pub mod Total
+pub mod WithIndex
 pub use Rattle.fallible_itertools_adapters.specs.Adjacent
 pub use Rattle.fallible_itertools_adapters.specs.Ahead
 pub use Rattle.fallible_itertools_adapters.specs.Chunks

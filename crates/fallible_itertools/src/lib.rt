@@ -20,6 +20,7 @@ pub mod sorted;
 pub mod tail;
 pub mod total;
 pub mod traits;
+pub mod with_index;
 
 pub use checked_sum::CheckedTotal;
 pub use double_ended::DoubleEndedFallibleItertools;
@@ -40,3 +41,4 @@ pub use minmax::MinMaxResult;
 pub use partition::Either;
 pub use total::Total;
 pub use traits::FallibleItertools;
+pub use with_index::MapErrWithIndex;

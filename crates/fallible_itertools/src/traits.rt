@@ -64,6 +64,7 @@ ghost use Rattle.fallible_itertools_adapters.specs.Tuples.{HasSecondCloned, tupl
 ghost use Rattle.fallible_itertools_adapters.specs.Unique as unique_by;
 ghost use Rattle.fallible_itertools_adapters.specs.UnlessRefused.{ListsUnlessRefused};
 ghost use Rattle.fallible_itertools.specs.Total.{AddedDrains, added};
+ghost use Rattle.fallible_itertools.specs.WithIndex.{failures_mapped_from, index_call, index_takes, with_index_contract, with_index_parts};
 ghost use Rattle.fallible_itertools.specs.declared.find.NotOne.TheVariants.{More};
 ghost use Rattle.fallible_itertools.specs.declared.fold_while.FoldWhile.TheVariants.{Done};
 ghost use Rattle.fallible_itertools.specs.declared.minmax.MinMaxResult.TheVariants.{NoElements};
@@ -84,6 +85,7 @@ use crate::minmax::{
     place_alone,
 };
 use crate::partition::{Either, Parted, with_failure, without_fault};
+use crate::with_index::MapErrWithIndex;
 use crate::{sorted, tail};
 use fallible_iterator::extending::{
     CollectTurn, FindTest, FindTurn, ForEachTurn, PositionTurn, ReadEq, Reading, answer_or,
@@ -1104,6 +1106,35 @@ pub trait FallibleItertools: FallibleIterator {
             (inspect_err_contract Self.contract F.FnMut)).steps result l) }
     {
         InspectErr::new(self, f)
+    }
+
+    /// Replaces each failure by what the closure returns for its index and it. The index is how many items and failures came before it, so the failure of the first line has the index 0.
+    ///
+    /// Creating it draws nothing. `next` draws once, and calls the closure once if a failure came. It fails where the source does, with what the closure returns. After a failure and after `Ok(None)` the next call draws again, and the count goes on; an `Ok(None)` doesn't count. An index is at most `usize::MAX`, and stays that.
+    ///
+    /// Requires: the closure may be called on each failure that may come, with each index.
+    ///
+    /// ```
+    /// let cells = [Ok::<u32, &str>(150), Err("no number"), Ok(7), Err("too large")];
+    /// let mut it = convert(cells.into_iter()).map_err_with_index(|index, why| (index, why));
+    /// let drawn = [it.next(), it.next(), it.next(), it.next(), it.next()];
+    /// assert_eq!(rt;
+    ///     drawn,
+    ///     [Ok(Some(150)), Err((1, "no number")), Ok(Some(7)), Err((3, "too large")), Ok(None)]
+    /// );
+    /// ```
+    final fn map_err_with_index<B, F>(self, f: F) -> MapErrWithIndex<Self, F>
+    where
+        F: FnMut(usize, Self::Error) -> B,
+        requires { IsCallable (index_call F.FnMut) (index_takes F.FnMut)
+            (λ p. Self.contract.may_fail self p.1) f }
+        ensures parts { with_index_parts result ≡ ((self, 0), f) }
+        ensures lists { OverListWith (list.ActsWith (fold.call_with F.FnMut) f) Self.contract.steps
+            self (λ h l. list.Lists (parts_as with_index_parts
+            (with_index_contract Self.contract F.FnMut)).steps
+            result (failures_mapped_from h 0 l)) }
+    {
+        MapErrWithIndex::new(self, f)
     }
 
     /// Converts each failure by `From`. So `chain`, `zip` and `merge` take two sources with two error types and no closure.
