@@ -15,7 +15,7 @@ use std::convert::Infallible;
 use std::iter::Map;"""
 LACKING = [
     # What the original has not. The lines of a text are fused.
-    (r"test_itertools/failing\.rs", r"\.map_while\((\w+)\)", r".scan((), |_: &mut (), x| \1(x))", 2),
+    (r"test_itertools/failing\.rs", r"\.map_while\((\w+)\)", r".scan((), |_: &mut (), x| \1(x))", 3),
     (r"example_consumers/settings\.rs", r"\bconvert_fused\b", "convert", 2),
     # Its source of counted calls is that of `pieces`, which writes what the original's types may.
     (r"test_support/counted\.rs", r"^use fallible_iterator::\{[^}]*\};",

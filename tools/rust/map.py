@@ -151,7 +151,7 @@ ITERTOOLS = [
     # What an adapter of one's own is made of, which no page tells.
     (r"lib\.rs", r" WithPosition,\s+staging,\n\};\n",
      " WithPosition,\n};\n#[doc(hidden)]\npub use crate::fallible_itertools_adapters::staging;\n", 1),
-    (r"lib\.rs", r"^pub (mod (?!traits;)\w+;)", r"\1", 13),
+    (r"lib\.rs", r"^pub (mod (?!traits;)\w+;)", r"\1", 14),
     (r"lib\.rs", r"^pub mod traits;", r"#[doc(hidden)]\n\g<0>", 1),
     (r"tail\.rs", r"^use std::collections::VecDeque;", "use alloc::collections::VecDeque;", 1),
     (r"(?:all_unique|keyed|join|sorted|partition|tail)\.rs", r"\A(//.*\n\n)",

@@ -1,4 +1,5 @@
 -- What the clauses of `src/` cite.
+pub mod Lines
 pub mod Places
 pub mod Reading
 pub mod Rows

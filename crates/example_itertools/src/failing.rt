@@ -200,3 +200,10 @@ where
 {
     it.inspect_err(log).count()
 }
+
+/// How many rows there are, or the first failure, which `noted` holds then.
+pub fn count_noting(rows: Vec<Result<u32, u8>>, noted: &mut Option<u8>) -> Result<usize, u8>
+    ensures { result ≡ counted (results rows.items) }
+{
+    count_logged(convert(rows.into_iter()), |code| *noted = Some(*code))
+}

@@ -8,6 +8,7 @@ pub mod grouping;
 pub mod holding;
 pub mod interspersing;
 pub mod joining;
+pub mod lines;
 pub mod merging_many;
 pub mod ordering;
 pub mod passing;

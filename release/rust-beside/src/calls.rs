@@ -68,6 +68,7 @@ macro_rules! calls {
         let mut failures = 0;
         say!("inspect_err", all!($rows.inspect_err(|_| failures += 1)));
         say("inspect_err", format!("{failures} failures"));
+        say!("map_err_with_index", all!($rows.map_err_with_index(|index, e| (index, $shown(e)))), |e| format!("{e:?}"));
         say!("err_into", all!($rows.err_into::<Became<_>>()).map_err(|e| e.0));
         say!("or_else", all!($rows.take(50).or_else(|e| { let _ = $shown(e); Ok::<_, std::convert::Infallible>(Some(0)) }).take(9)).map_err(|never| -> _ { match never {} }));
         say!("fuse_at_failure", all!($rows.fuse_at_failure()));

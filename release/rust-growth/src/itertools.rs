@@ -57,6 +57,9 @@ pub const ADAPTERS: &[Row] = &[
     }),
     row("inspect_err", FLAT, Few, ANY, |s, w| drain(w, s.source().inspect_err(|_| told(())))),
     row("err_into", FLAT, Few, ANY, |s, w| drain(w, s.source().err_into::<Failure>())),
+    row("map_err_with_index", FLAT, Few, ANY, |s, w| {
+        drain(w, s.source().map_err_with_index(|_, e| told(e)))
+    }),
     row("or_else", FLAT, Few, ANY, |s, w| drain(w, s.source().or_else(|_| called(None::<Item>)))),
     row("fuse_at_failure", FLAT, Few, ANY, |s, w| drain(w, s.source().fuse_at_failure())),
     row("stop_after", FLAT, Few, ANY, |s, w| drain(w, s.source().stop_after(s.k()))),

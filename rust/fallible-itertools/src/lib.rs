@@ -40,6 +40,7 @@ mod sorted;
 #[cfg(feature = "alloc")]
 mod tail;
 mod traits;
+mod with_index;
 #[cfg(doc)]
 pub mod words;
 
@@ -67,3 +68,4 @@ pub use fold_while::FoldWhile;
 pub use minmax::MinMaxResult;
 pub use partition::Either;
 pub use traits::FallibleItertools;
+pub use with_index::MapErrWithIndex;

@@ -39,6 +39,7 @@ use crate::minmax::{
     place_alone,
 };
 use crate::partition::{Either, Parted};
+use crate::with_index::MapErrWithIndex;
 #[cfg(feature = "alloc")]
 use crate::{sorted, tail};
 #[cfg(feature = "alloc")]
@@ -1263,6 +1264,42 @@ pub trait FallibleItertools: FallibleIterator + Sized {
         F: FnMut(&Self::Error),
     {
         InspectErr::new(self, f)
+    }
+
+    /// Replaces each failure by what the closure returns for its index and it. The index is how many items and failures came before it, so the failure of the first line has the index 0.
+    ///
+    /// Creating it draws nothing. `next` draws once, and calls the closure once if a failure came. It fails where the source does, with what the closure returns. After a failure and after `Ok(None)` the next call draws again, and the count goes on; an `Ok(None)` doesn't count. An index is at most `usize::MAX`, and stays that.
+    ///
+    /// ```
+    /// # use fallible_iterator::{FallibleIterator, convert};
+    /// # use fallible_itertools::FallibleItertools;
+    /// let cells = [Ok::<u32, &str>(150), Err("no number"), Ok(7), Err("too large")];
+    /// let mut it = convert(cells.into_iter()).map_err_with_index(|index, why| (index, why));
+    /// let drawn = [it.next(), it.next(), it.next(), it.next(), it.next()];
+    /// assert_eq!(drawn,
+    ///     [Ok(Some(150)), Err((1, "no number")), Ok(Some(7)), Err((3, "too large")), Ok(None)]
+    /// );
+    /// ```
+    ///
+    /// <details><summary>Contract</summary>
+    ///
+    /// As it is proved, in [these words](crate::words):
+    ///
+    /// ```text
+    /// requires { IsCallable (index_call F.FnMut) (index_takes F.FnMut)
+    ///     (λ p. Self.contract.may_fail self p.1) f }
+    /// ensures parts { with_index_parts result ≡ ((self, 0), f) }
+    /// ensures lists { OverListWith (list.ActsWith (fold.call_with F.FnMut) f) Self.contract.steps
+    ///     self (λ h l. list.Lists (parts_as with_index_parts
+    ///     (with_index_contract Self.contract F.FnMut)).steps
+    ///     result (failures_mapped_from h 0 l)) }
+    /// ```
+    /// </details>
+    fn map_err_with_index<B, F>(self, f: F) -> MapErrWithIndex<Self, F>
+    where
+        F: FnMut(usize, Self::Error) -> B,
+    {
+        MapErrWithIndex::new(self, f)
     }
 
     /// Converts each failure by `From`. So `chain`, `zip` and `merge` take two sources with two error types and no closure.

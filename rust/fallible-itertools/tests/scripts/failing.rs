@@ -3,7 +3,9 @@
 use crate::AllocError;
 use crate::answer::{Failed, Seen};
 use crate::case::{Case, Given, Run};
-use crate::itertools_rules::{beside_failures, failures_raised, recovered_by_calls, stopped_after};
+use crate::itertools_rules::{
+    beside_failures, failures_indexed, failures_raised, recovered_by_calls, stopped_after,
+};
 use crate::layers::{Layer, Visit};
 use crate::operating::operate;
 use crate::operation::Outcome;
@@ -92,6 +94,31 @@ impl Layer for FailuresRaised {
 
     fn rule(source: &[Seen], _made: u32) -> Result<Vec<Seen>, AllocError> {
         failures_raised(source)
+    }
+}
+
+/// `map_err_with_index` to ten times the failure and its index.
+pub struct FailuresIndexed;
+
+impl Layer for FailuresIndexed {
+    fn name() -> &'static str {
+        "map_err_with_index"
+    }
+
+    fn over<I, V: Visit>(run: &Run<'_>, it: I) -> Result<Option<Outcome>, AllocError>
+    where
+        I: FallibleIterator<Item = u32, Error = Failed>,
+    {
+        V::visit(
+            run,
+            it.map_err_with_index(|index: usize, e: Failed| {
+                Failed(e.0.wrapping_mul(10).wrapping_add(index as u32))
+            }),
+        )
+    }
+
+    fn rule(source: &[Seen], _made: u32) -> Result<Vec<Seen>, AllocError> {
+        failures_indexed(source)
     }
 }
 

@@ -400,6 +400,24 @@ pub fn failures_raised(source: &[Seen]) -> Result<Vec<Seen>, AllocError> {
     })
 }
 
+/// Each failure ten times, and how many items and failures stand before it.
+pub fn failures_indexed(source: &[Seen]) -> Result<Vec<Seen>, AllocError> {
+    let mut index: u32 = 0;
+    cut(source, |answer: Answer| {
+        let before = index;
+        if answer != Answer::End {
+            index = index.wrapping_add(1);
+        }
+        match answer {
+            Answer::Failure(e) => (
+                Answer::Failure(e.wrapping_mul(10).wrapping_add(before)),
+                false,
+            ),
+            _ => (answer, false),
+        }
+    })
+}
+
 /// The list up to its failure number n, and then ends without draws; n is at least 1.
 pub fn stopped_after(source: &[Seen], n: u32) -> Result<Vec<Seen>, AllocError> {
     let mut failures: u32 = 0;

@@ -133,6 +133,7 @@ fn drive_itertools(total: &mut Tally) -> io::Result<()> {
     drive::<Over<failing::ShownByCalls>>(total)?;
     drive::<failing::RecoveredByCalls>(total)?;
     drive::<Over<failing::FailuresRaised>>(total)?;
+    drive::<Over<failing::FailuresIndexed>>(total)?;
     drive::<Over<failing::FusedAtFailure>>(total)?;
     drive::<Over<failing::StoppedAfterTwo>>(total)?;
     drive::<Over<holding::Deduped>>(total)?;

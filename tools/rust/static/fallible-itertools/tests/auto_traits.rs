@@ -15,7 +15,7 @@ fn each_iterator_has_what_it_keeps() {
         M => ChunkBy<Of<M>, (), ()>, Chunks<Of<M>>, Coalesce<Of<M>, ()>, Copied<M>, Dedup<Of<M>>, DedupBy<Of<M>, ()>,
             DedupByKey<Of<M>, (), ()>, DedupByWithCount<Of<M>, ()>, DedupWithCount<Of<M>>, Duplicates<Of<M>>, ErrInto<M, ()>, FuseAtFailure<M>, InspectErr<M, ()>, Interleave<M, ()>, Interleave<(), M>, Intersperse<Of<M>>,
             IntersperseWith<Of<M>, ()>,
-            KMerge<Of<M>>, KMergeBy<Of<M>, ()>, Merge<Of<M>, ()>, Merge<Of<()>, M>, MergeBy<Of<M>, (), ()>, MergeBy<Of<()>, M, ()>, MergeJoinBy<Of<M>, Of<()>, ()>, MergeJoinBy<Of<()>, Of<M>, ()>, OrElse<M, ()>,
+            KMerge<Of<M>>, KMergeBy<Of<M>, ()>, MapErrWithIndex<M, ()>, Merge<Of<M>, ()>, Merge<Of<()>, M>, MergeBy<Of<M>, (), ()>, MergeBy<Of<()>, M, ()>, MergeJoinBy<Of<M>, Of<()>, ()>, MergeJoinBy<Of<()>, Of<M>, ()>, OrElse<M, ()>,
             PadUsing<M, ()>, PeekingTakeWhile<M, ()>, Positions<M, ()>, StopAfter<M>, TakeWhileInclusive<M, ()>, TupleWindows<Of<M>>,
             Tuples<Of<M>>, Unique<Of<M>>, UniqueBy<M, (), ()>, WithPosition<Of<M>>, ZipEq<Of<M>, (), ()>, ZipEq<Of<()>, M, ()>, ZipLongest<Of<M>, ()>,
             ZipLongest<Of<()>, M>;
@@ -24,7 +24,7 @@ fn each_iterator_has_what_it_keeps() {
     rows! { M;
         M => ChunkBy<Of<()>, (), M>, ChunkBy<Of<()>, M, ()>, Coalesce<Of<()>, M>, DedupBy<Of<()>, M>,
             DedupByKey<Of<()>, (), M>, DedupByKey<Of<()>, M, ()>, DedupByWithCount<Of<()>, M>, InspectErr<(), M>, IntersperseWith<Of<()>, M>,
-            KMergeBy<Of<()>, M>, MergeBy<Of<()>, (), M>, MergeJoinBy<Of<()>, Of<()>, M>, OrElse<(), M>, PadUsing<(), M>, PeekingTakeWhile<(), M>,
+            KMergeBy<Of<()>, M>, MapErrWithIndex<(), M>, MergeBy<Of<()>, (), M>, MergeJoinBy<Of<()>, Of<()>, M>, OrElse<(), M>, PadUsing<(), M>, PeekingTakeWhile<(), M>,
             Positions<(), M>, TakeWhileInclusive<(), M>, UniqueBy<(), (), M>, ZipEq<Of<()>, (), M>;
     }
     // An item in hand, and a failure that is due.
