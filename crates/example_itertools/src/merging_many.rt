@@ -1,13 +1,41 @@
 //! Callers of `kmerge_by` and `kmerge`, which state what many sorted sources come to.
-ghost use Rattle.std.specs.Prelude.{◌≡◌, ◌∷◌, [], MatchResult, Ok, nat_le, ⊤};
+ghost use Rattle.std.specs.Prelude.{◌≡◌, ◌∷◌, [], Err, List, MatchResult, Ok, Result, nat_le, ℕ, ⊤};
 ghost use Rattle.std.specs.Ordering.{nat_cmp};
 ghost use Rattle.fallible_iterator.specs.Comparing.{by_cmp};
-ghost use Rattle.fallible_iterator.specs.Lists.{last_of, results};
-ghost use Rattle.fallible_itertools.specs.KMerge.{kmerged, kmerged_in_order};
+ghost use Rattle.fallible_iterator.specs.Lists.{failures_mapped, last_of, results};
+ghost use Rattle.fallible_itertools.specs.KMerge.{Each, EachLists, kmerged, kmerged_in_order};
+ghost use Rattle.example_itertools.specs.declared.merging_many.NoLast.{NoLast};
 
 use fallible_iterator::{FallibleIterator, convert};
-use fallible_itertools::{kmerge, kmerge_by};
+use fallible_itertools::{FallibleItertools, kmerge, kmerge_by};
 use std::alloc::{AllocError, Global};
+
+/// Why there is no last line.
+#[derive(Clone, Copy, Debug, Drop, PartialEq)]
+pub enum NoLast {
+    /// A log is bad, with this code.
+    Log(u8),
+    /// There was no memory.
+    Memory,
+}
+
+impl From<u8> for NoLast {
+    ghost from_gives = { λ code why. why ≡ NoLast.Log code };
+
+    /// `NoLast::Log`
+    fn from(code: u8) -> NoLast {
+        NoLast::Log(code)
+    }
+}
+
+impl From<AllocError> for NoLast {
+    ghost from_gives = { λ _ why. why ≡ NoLast.Memory };
+
+    /// `NoLast::Memory`
+    fn from(_: AllocError) -> NoLast {
+        NoLast::Memory
+    }
+}
 
 /// The last line of three sorted logs together, or the first failure; or an allocation failure.
 pub fn last_of_logs(
@@ -40,4 +68,21 @@ pub fn last_in_order(
     let logs = vec![in alloc; convert(first.into_iter()), convert(second.into_iter())]?;
     let merged = kmerge(alloc, logs)?;
     Ok(merged.last())
+}
+
+/// The last line of many sorted logs together, or why there is none. If memory was refused, it says so, and nothing of the logs.
+pub fn last_of_any_logs<I: FallibleIterator<Item = u32, Error = u8>>(
+    alloc: Global,
+    logs: Vec<I>,
+) -> Result<Option<u32>, NoLast>
+where
+    requires can_next { Each I.contract.can_next logs.items }
+    requires finite { Each I.contract.is_finite logs.items }
+    ensures { (ls : List (List (Result ℕ ℕ))) → EachLists I.contract.steps logs.items ls
+        → ¬ (result ≡ Err NoLast.Memory)
+        → result ≡ last_of (failures_mapped (λ code. NoLast.Log code)
+        (kmerged (λ x y. Ok (nat_le x y)) ls)) }
+{
+    let merged = kmerge_by(alloc, logs, |x: &u32, y: &u32| Ok(*x <= *y))?;
+    merged.err_into().last()
 }
