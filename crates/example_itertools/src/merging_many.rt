@@ -1,8 +1,9 @@
 //! Callers of `kmerge_by` and `kmerge`, which state what many sorted sources come to.
-ghost use Rattle.std.specs.Prelude.{◌≡◌, ◌∷◌, [], Err, List, MatchResult, Ok, Result, nat_le, ℕ, ⊤};
+ghost use Rattle.std.specs.Prelude.{◌≡◌, ◌∷◌, [], Err, List, MatchResult, Ok, Result, nat_eq, nat_le, nat_lt, ℕ, ⊤};
 ghost use Rattle.std.specs.Ordering.{nat_cmp};
 ghost use Rattle.fallible_iterator.specs.Comparing.{by_cmp};
-ghost use Rattle.fallible_iterator.specs.Lists.{failures_mapped, last_of, results};
+ghost use Rattle.fallible_iterator.specs.Lists.{Lists, failures_mapped, filtered, last_of, results};
+ghost use Rattle.fallible_itertools.specs.Coalesce.{deduped};
 ghost use Rattle.fallible_itertools.specs.KMerge.{Each, EachLists, kmerged, kmerged_in_order};
 ghost use Rattle.example_itertools.specs.declared.merging_many.NoLast.{NoLast};
 
@@ -85,4 +86,33 @@ where
 {
     let merged = kmerge_by(alloc, logs, |x: &u32, y: &u32| Ok(*x <= *y))?;
     merged.err_into().last()
+}
+
+/// The last change of the lines above 100, or the first failure.
+pub fn last_change_above_100<I: FallibleIterator<Item = u32, Error = u8>>(
+    lines: I,
+) -> Result<Option<u32>, u8>
+where
+    requires can_next { I.contract.can_next lines }
+    requires finite { I.contract.is_finite lines }
+    ensures { (l : List (Result ℕ ℕ)) → Lists I.contract.steps lines l
+        → result ≡ last_of (deduped nat_eq (filtered (λ x. Ok (nat_lt 100 x)) l)) }
+{
+    lines.filter(|line| Ok(*line > 100)).dedup().last()
+}
+
+/// The same of many sorted logs together; or an allocation failure. The merge is passed to the function above, which is proved over any source.
+pub fn last_change_of_logs<I: FallibleIterator<Item = u32, Error = u8>>(
+    alloc: Global,
+    logs: Vec<I>,
+) -> Result<Result<Option<u32>, u8>, AllocError>
+where
+    requires can_next { Each I.contract.can_next logs.items }
+    requires finite { Each I.contract.is_finite logs.items }
+    ensures { (ls : List (List (Result ℕ ℕ))) → EachLists I.contract.steps logs.items ls
+        → MatchResult result (λ r. r ≡ last_of (deduped nat_eq
+        (filtered (λ x. Ok (nat_lt 100 x)) (kmerged (λ x y. Ok (nat_le x y)) ls)))) (λ _. ⊤) }
+{
+    let merged = kmerge_by(alloc, logs, |x: &u32, y: &u32| Ok(*x <= *y))?;
+    Ok(last_change_above_100(merged))
 }
