@@ -68,7 +68,7 @@ fn each_adapter_by_every_short_script() -> io::Result<()> {
     drive_tagged(&mut total)?;
     let cases = total.cases;
     let mismatches = total.mismatches;
-    assert_eq!((cases, mismatches), (1612079, 0));
+    assert_eq!((cases, mismatches), (1628788, 0));
     Ok(())
 }
 
