@@ -1,11 +1,12 @@
 -- The draws and the fold of `MapErrWithIndex` are those of its source, counted, and what it lists.
-use Rattle.std.specs.Prelude.{◌≡◌, ℕ, Result, List, [], ◌∷◌, ◌++◌, map, Some, None, Ok, Err}
+use Rattle.std.specs.Prelude.{◌≡◌, ℕ, suc, ◌+◌, ◌-◌, ◌^◌, ◌≤◌, ◌<◌, length, Result, List, [], ◌∷◌, ◌++◌, map, Some, None, Ok, Err}
 use Rattle.std.specs.Fn.{Mut}
-use Rattle.std.proofs.Common.{refl, sym, ap, subst, ◌∙◌}
+use Rattle.std.proofs.Common.{refl, sym, ap, subst, ◌∙◌, arith}
+use Rattle.std.proofs.Math.Nat.{min-eq_left}
 use Rattle.fallible_iterator.specs.Contract.{Contract, parts_as}
 use Rattle.fallible_iterator.specs.Failing.{FailingAnswer, failing_step, failures_mapped}
 use Rattle.fallible_iterator.specs.Folds.{Drained, HoldsAtEachTurn, call_with}
-use Rattle.fallible_iterator.specs.Lists.{ActsWith, AlwaysGives, Lists, result_answer}
+use Rattle.fallible_iterator.specs.Lists.{ActsWith, AlwaysGives, Lists}
 use Rattle.fallible_iterator.specs.Passing.{PassAnswer, passing_step}
 use Rattle.fallible_iterator.specs.Traces.{Answered, Run, item}
 use Rattle.fallible_iterator.specs.Laws.Passing.{Passes, done, end_passes, failure_passes, keeps, refuses, closes, leaves_out, passes_of_pass_trace}
@@ -85,3 +86,23 @@ pub lists_mapped_with_index : {S F X D E : Type 0} {it : S} {f : F} (m : Contrac
     → Lists (parts_as with_index_parts (with_index_contract m g)).steps s (failures_mapped_from h 0 l)
 lists_mapped_with_index {F = F} {it = it} {f = f} m g s h l parts acts i = lists_seen with_index_parts (with_index_contract m g).steps s parts (mapped_beside_index h 0 l)
     (always_gives_failures_mapped (index_call g) (λ k. k ≡ f) (λ p. h p.0 p.1) (λ k p e j at called. acts p.0 p.1 e j (subst (λ (z : F). index_call g z p e j) at called)) (indexed_step m.steps) (it, 0) f (beside_index 0 l) refl (always_gives_beside_index m.steps l it 0 i.runs))
+
+-- ---- which index a failure has
+
+next_index_below : (n : ℕ) → n < 2 ^ 64 - 1 → next_index n ≡ n + 1
+next_index_below n below = min-eq_left (omega (arith, below))
+
+module _ {A D E : Type 0} (h : ℕ → D → E) (e : D) (b : List (Result A D)) where
+  -- after one more answer y
+  failures_mapped_after : (n : ℕ) (y : Result A E) (a : List (Result A D)) → n + suc (length a) ≤ 2 ^ 64 - 1 → failures_mapped_from h (n + 1) (a ++ Err e ∷ b) ≡ failures_mapped_from h (n + 1) a ++ Err (h (n + 1 + length a) e) ∷ failures_mapped_from h (next_index (n + 1 + length a)) b
+      → y ∷ failures_mapped_from h (next_index n) (a ++ Err e ∷ b) ≡ y ∷ (failures_mapped_from h (next_index n) a ++ Err (h (n + suc (length a)) e) ∷ failures_mapped_from h (next_index (n + suc (length a))) b)
+  failures_mapped_after n y a few rest = let next = next_index_below n (omega (arith, few)) in let same : n + 1 + length a ≡ n + suc (length a) = omega arith in
+      subst (λ (j : ℕ). y ∷ failures_mapped_from h j (a ++ Err e ∷ b) ≡ y ∷ (failures_mapped_from h j a ++ Err (h (n + suc (length a)) e) ∷ failures_mapped_from h (next_index (n + suc (length a))) b)) (sym next)
+      (subst (λ (k : ℕ). y ∷ failures_mapped_from h (n + 1) (a ++ Err e ∷ b) ≡ y ∷ (failures_mapped_from h (n + 1) a ++ Err (h k e) ∷ failures_mapped_from h (next_index k) b)) same (ap (λ l. y ∷ l) rest))
+
+  -- Law: A failure that comes after n items and failures has the index n, if that is at most `usize::MAX`.
+  pub failures_mapped_in_parts : (n : ℕ) (a : List (Result A D)) → n + length a ≤ 2 ^ 64 - 1 → failures_mapped_from h n (a ++ Err e ∷ b) ≡ failures_mapped_from h n a ++ Err (h (n + length a) e) ∷ failures_mapped_from h (next_index (n + length a)) b
+  unfolding failures_mapped_from
+  failures_mapped_in_parts n [] few = let same : n ≡ n + 0 = omega arith in subst (λ (k : ℕ). Err (h n e) ∷ failures_mapped_from h (next_index n) b ≡ Err (h k e) ∷ failures_mapped_from h (next_index k) b) same refl
+  failures_mapped_in_parts n (Ok x ∷ a) few = let fits : n + suc (length a) ≤ 2 ^ 64 - 1 = few in failures_mapped_after n (Ok x) a fits (failures_mapped_in_parts (n + 1) a (omega (arith, fits)))
+  failures_mapped_in_parts n (Err d ∷ a) few = let fits : n + suc (length a) ≤ 2 ^ 64 - 1 = few in failures_mapped_after n (Err (h n d)) a fits (failures_mapped_in_parts (n + 1) a (omega (arith, fits)))

@@ -1,5 +1,5 @@
 -- The contract of `MapErrWithIndex` is lawful where the source's is.
-use Rattle.std.specs.Prelude.{◌≡◌, ℕ, ⊤, Option, List, [], ◌∷◌, Some, None, Ok, Err}
+use Rattle.std.specs.Prelude.{◌≡◌, ℕ, ⊤, List, [], ◌∷◌, Some, None, Ok, Err}
 use Rattle.std.specs.Fn.{Mut}
 use Rattle.std.proofs.Common.{refl, sym, ap, subst}
 use Rattle.fallible_iterator.specs.Contract.{Contract, KeptByDraw, Lawful, OnAnswer}
