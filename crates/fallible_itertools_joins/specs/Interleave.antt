@@ -5,7 +5,7 @@ use Rattle.fallible_iterator.specs.Contract.{Contract, Inverse}
 use Rattle.fallible_iterator.specs.Hints.{hint_sum}
 use Rattle.fallible_iterator.specs.Traces.{Answered, end, is_end}
 use Rattle.fallible_iterator.specs.Fuse.{Fuse}
-use Rattle.fallible_itertools_joins.specs.Sides.{DrawsIf, Join, fused_contract, join_contract, joins_all, left_ended, left_source, right_ended, right_source}
+use Rattle.fallible_itertools_joins.specs.Sides.{DrawsIf, Join, join_contract, joins_all, left_ended, left_source, right_ended, right_source}
 use Rattle.fallible_itertools_joins.specs.declared.interleave.Interleave.{Interleave}
 
 -- The first side yields an item or fails, and the second isn't drawn; or the first ends, and the second yields the answer.
@@ -53,13 +53,13 @@ interleave_right_ended s = right_ended (interleave_parts s)
 abbrev pub interleave_right_next : {T U : Type 0} → Interleave T U → Bool
 interleave_right_next s = (interleave_parts s).2
 
--- its trace, of two fused sides
+-- its trace
 abbrev pub InterleaveTrace : {S U A E : Type 0} → (S → List (Answered A E) → S → Type 0) → (U → List (Answered A E) → U → Type 0) → S × U × Bool → List (Answered A E) → S × U × Bool → Type 0
 InterleaveTrace traces others p trace q = joins_all turns traces others p trace q
 
--- `Interleave`'s contract: both sides, fused, are drawn in turn; their bounds are added up, and so is what remains.
-abbrev pub interleave_contract : {S U A E : Type 0} → Contract S A E → Contract U A E → Contract (Fuse S × Fuse U × Bool) A E
-interleave_contract left right = record (join_contract turns (fused_contract left) (fused_contract right)) { traces = InterleaveTrace (fused_contract left).traces (fused_contract right).traces }
+-- `Interleave`'s contract: both sides are drawn in turn; their bounds are added up, and so is what remains.
+abbrev pub interleave_contract : {S U A E : Type 0} → Contract S A E → Contract U A E → Contract (S × U × Bool) A E
+interleave_contract left right = record (join_contract turns left right) { traces = InterleaveTrace left.traces right.traces }
 
 -- ---- what it lists
 

@@ -14,7 +14,7 @@ use Rattle.fallible_iterator.specs.Lists.{result_answer}
 use Rattle.fallible_iterator.specs.Sound.{sound_always}
 use Rattle.fallible_iterator.specs.Sources.FromFn.{call_of_none}
 use Rattle.fallible_iterator.specs.Traces.{Answered, item, failure, end}
-use Rattle.fallible_itertools_joins.specs.Sides.{Join, MakesTaken, OfEachSide, fused_contract, holding, join_as, join_contract, joins_all, taken_among}
+use Rattle.fallible_itertools_joins.specs.Sides.{Join, MakesTaken, OfEachSide, holding, join_as, join_contract, joins_all, taken_among}
 use Rattle.fallible_itertools_joins.specs.declared.zip.EitherOrBoth.{EitherOrBoth}
 use Rattle.fallible_itertools_joins.specs.declared.zip.EitherOrBoth.TheVariants.{Both, Left, Right}
 use Rattle.fallible_itertools_joins.specs.declared.zip.PadUsing.{PadUsing}
@@ -82,13 +82,13 @@ hint_greater g k = (max g.0 k.0, greater_bound g.1 k.1)
 abbrev pub longest_join : {A B E : Type 0} → Join A B (EitherOrBoth A B) E (Option A)
 longest_join {A = A} {B = B} = join_as {V = (Option A × Option B) × Unit {0}} (λ h. ((h, None), tt)) (holding (MakesTaken {K = Unit {0}} (λ k. Equal) (λ t. t) (λ f x y v g. v ≡ Ok tt)) (λ P Q f. ⊤) (λ P Q f z. OfEachSide P Q z) (λ P Q f e. ⊥) hint_greater)
 
--- its trace, of two fused sides
+-- its trace
 abbrev pub ZipLongestTrace : {S U A B E : Type 0} → (S → List (Answered A E) → S → Type 0) → (U → List (Answered B E) → U → Type 0) → S × U × Option A → List (Answered (EitherOrBoth A B) E) → S × U × Option A → Type 0
 ZipLongestTrace traces others p trace q = joins_all longest_join traces others p trace q
 
 -- `ZipLongest`'s contract: its hint has the greater bounds of both sides.
-abbrev pub zip_longest_contract : {S U A B E : Type 0} → Contract S A E → Contract U B E → Contract (Fuse S × Fuse U × Option A) (EitherOrBoth A B) E
-zip_longest_contract left right = record (join_contract longest_join (fused_contract left) (fused_contract right)) { traces = ZipLongestTrace (fused_contract left).traces (fused_contract right).traces }
+abbrev pub zip_longest_contract : {S U A B E : Type 0} → Contract S A E → Contract U B E → Contract (S × U × Option A) (EitherOrBoth A B) E
+zip_longest_contract left right = record (join_contract longest_join left right) { traces = ZipLongestTrace left.traces right.traces }
 
 -- ---- what it lists
 
@@ -139,8 +139,8 @@ abbrev pub ZipEqTrace : {S U F A B E : Type 0} → (S → List (Answered A E) �
 ZipEqTrace traces others g p trace q = joins_all (pair_join (call_of_none g) (takes_none g)) traces others p trace q
 
 -- `ZipEq`'s contract: its hint has the smaller bounds of both sides.
-abbrev pub zip_eq_contract : {S U F A B E : Type 0} → Contract S A E → Contract U B E → Mut F (Unit {0}) E → Contract (Fuse S × Fuse U × (Option A × F)) (A × B) E
-zip_eq_contract left right g = record (join_contract (pair_join (call_of_none g) (takes_none g)) (fused_contract left) (fused_contract right)) { traces = ZipEqTrace (fused_contract left).traces (fused_contract right).traces g }
+abbrev pub zip_eq_contract : {S U F A B E : Type 0} → Contract S A E → Contract U B E → Mut F (Unit {0}) E → Contract (S × U × (Option A × F)) (A × B) E
+zip_eq_contract left right g = record (join_contract (pair_join (call_of_none g) (takes_none g)) left right) { traces = ZipEqTrace left.traces right.traces g }
 
 -- ---- what it lists
 
@@ -211,13 +211,13 @@ module _ {A E F : Type 0} (call : F → ℕ → Result A E → F → Type 0) whe
   abbrev pub padding : (F → ℕ → Type 0) → Join A ℕ A E F
   padding takes = join_as (λ f. ((None, None), f)) (holding MakesPadded (λ P Q f. IsCallable call takes Q f) (λ P Q f z. P z ⊎ MayAnswer call Q f (λ i v. v ≡ Ok z)) (λ P Q f e. MayAnswer call Q f (λ i v. v ≡ Err e)) hint_greater)
 
--- `PadUsing`: the source, fused, beside the indices below n.
+-- `PadUsing`: the source beside the indices below n.
 abbrev pub PadUsingTrace : {S F A E : Type 0} → (S → List (Answered A E) → S → Type 0) → Mut F (ℕ × Unit {0}) (Result A E) → S × (ℕ × ℕ) × F → List (Answered A E) → S × (ℕ × ℕ) × F → Type 0
 PadUsingTrace traces g p trace q = joins_all (padding (call_by_value g) (takes_by_value g)) traces IndexTrace p trace q
 
--- `PadUsing`'s contract: the source, fused, beside the indices below n; its hint has the greater bounds of both.
-abbrev pub pad_using_contract : {S F A E : Type 0} → Contract S A E → Mut F (ℕ × Unit {0}) (Result A E) → Contract (Fuse S × (ℕ × ℕ) × F) A E
-pad_using_contract m g = record (join_contract (padding (call_by_value g) (takes_by_value g)) (fused_contract m) index_contract) { traces = PadUsingTrace (fused_contract m).traces g }
+-- `PadUsing`'s contract: the source beside the indices below n; its hint has the greater bounds of both.
+abbrev pub pad_using_contract : {S F A E : Type 0} → Contract S A E → Mut F (ℕ × Unit {0}) (Result A E) → Contract (S × (ℕ × ℕ) × F) A E
+pad_using_contract m g = record (join_contract (padding (call_by_value g) (takes_by_value g)) m index_contract) { traces = PadUsingTrace m.traces g }
 
 -- the source, fused; the index of the next item, and n; and the closure
 abbrev pub pad_using_parts : {I F : Type 0} → PadUsing I F → Fuse I × (ℕ × ℕ) × F

@@ -3,6 +3,7 @@ ghost use Rattle.std.specs.Prelude.{◌≡◌, Option, Result, None, is_some, un
 ghost use Rattle.fallible_iterator.specs.Contract.{parts_as};
 ghost use Rattle.fallible_iterator.specs.Laws.Contract.{lawful_parts};
 ghost use Rattle.fallible_itertools_joins.specs.Zip.{both_of, hint_greater, only_left, left_of, longest, only_right, right_of, zip_longest_contract, zip_longest_made, zip_longest_parts, zip_eq_contract, zip_eq_made, zip_eq_parts, NextIndex, pad_using_contract, pad_using_made, pad_using_parts};
+ghost use Rattle.fallible_itertools_joins.specs.Sides.{fused_contract};
 ghost use Rattle.fallible_itertools_joins.specs.Laws.Zip.{lawful_pad_using, lawful_zip_eq, lawful_zip_longest};
 
 use crate::sides::{DrawsBoth, JoinSide, drive_both};
@@ -180,7 +181,8 @@ where
 
     type Error = T::Error;
 
-    ghost contract = { parts_as zip_longest_parts (zip_longest_contract T.contract U.contract) };
+    ghost contract = { parts_as zip_longest_parts
+        (zip_longest_contract (fused_contract T.contract) (fused_contract U.contract)) };
 
     /// Takes the left's buffered item, or draws the left once. Then, unless that failed, it draws the right once. A side that returned `Ok(None)` isn't drawn again. Each fold draws so too.
     fn next(&mut self) -> Result<Option<EitherOrBoth<T::Item, U::Item>>, T::Error> {
@@ -212,7 +214,8 @@ where
 
     type Error = T::Error;
 
-    ghost joins = { parts_as zip_longest_parts (zip_longest_contract T.contract U.contract) };
+    ghost joins = { parts_as zip_longest_parts
+        (zip_longest_contract (fused_contract T.contract) (fused_contract U.contract)) };
 
     #[inline(always)]
     fn next_of_both(
@@ -292,7 +295,8 @@ where
 
     type Error = T::Error;
 
-    ghost contract = { parts_as zip_eq_parts (zip_eq_contract T.contract U.contract F.FnMut) };
+    ghost contract = { parts_as zip_eq_parts
+        (zip_eq_contract (fused_contract T.contract) (fused_contract U.contract) F.FnMut) };
 
     /// Takes the left's buffered item, or draws the left once. Then, unless that failed, it draws the right once. A side that returned `Ok(None)` isn't drawn again. It calls the closure once if one side alone has an item. Each fold draws so too.
     fn next(&mut self) -> Result<Option<(T::Item, U::Item)>, T::Error> {
@@ -352,7 +356,8 @@ impl<I: FallibleIterator, F: FnMut(usize) -> Result<I::Item, I::Error>> Fallible
 
     type Error = I::Error;
 
-    ghost contract = { parts_as pad_using_parts (pad_using_contract I.contract F.FnMut) };
+    ghost contract = { parts_as pad_using_parts
+        (pad_using_contract (fused_contract I.contract) F.FnMut) };
 
     /// Draws once until the source returned `Ok(None)`. From then on it draws nothing, and calls the closure once until n items were yielded. Each fold draws so too.
     fn next(&mut self) -> Result<Option<I::Item>, I::Error> {
@@ -382,7 +387,8 @@ impl<I: FallibleIterator, F: FnMut(usize) -> Result<I::Item, I::Error>> DrawsBot
 
     type Error = I::Error;
 
-    ghost joins = { parts_as pad_using_parts (pad_using_contract I.contract F.FnMut) };
+    ghost joins = { parts_as pad_using_parts
+        (pad_using_contract (fused_contract I.contract) F.FnMut) };
 
     #[inline(always)]
     fn next_of_both(&mut self) -> (Result<Option<I::Item>, I::Error>, bool) {

@@ -1470,17 +1470,20 @@ pub trait FallibleItertools: FallibleIterator + Sized {
     /// ensures bounded { (a b k : ℕ) → Self.contract.bound self a
     ///     → I.IntoFallibleIter.contract.bound
     ///     (sides.right_source (merge_parts result)) b → a + b ≤ k
-    ///     → AtMost (seen_as merge_parts (merge_contract Self.Item.partial_cmp Self.contract
-    ///     I.IntoFallibleIter.contract)) result k }
+    ///     → AtMost (seen_as merge_parts (merge_contract Self.Item.partial_cmp
+    ///     (sides.fused_contract Self.contract)
+    ///     (sides.fused_contract I.IntoFallibleIter.contract))) result k }
     /// ensures lists { OverBoth Self.contract.steps self I.into_gives other
     ///     I.IntoFallibleIter.contract.steps
     ///     (λ a b. list.Lists (seen_as merge_parts (merge_contract Self.Item.partial_cmp
-    ///     Self.contract I.IntoFallibleIter.contract)).steps result
+    ///     (sides.fused_contract Self.contract)
+    ///     (sides.fused_contract I.IntoFallibleIter.contract))).steps result
     ///     (merged_in_order Self.Item.partial_cmp a b)) }
     /// ensures for_good { OverBoth Self.contract.steps self I.into_gives other
     ///     I.IntoFallibleIter.contract.steps
     ///     (λ a b. list.ListsForGood (seen_as merge_parts (merge_contract Self.Item.partial_cmp
-    ///     Self.contract I.IntoFallibleIter.contract)).steps result
+    ///     (sides.fused_contract Self.contract)
+    ///     (sides.fused_contract I.IntoFallibleIter.contract))).steps result
     ///     (merged_in_order Self.Item.partial_cmp a b)) }
     /// ```
     /// </details>
@@ -1521,22 +1524,25 @@ pub trait FallibleItertools: FallibleIterator + Sized {
     /// ensures bounded { (a b k : ℕ) → Self.contract.bound self a
     ///     → I.IntoFallibleIter.contract.bound
     ///     (sides.right_source (merge_by.merge_by_parts result)) b → a + b ≤ k
-    ///     → AtMost (seen_as merge_by.merge_by_parts (merge_by.merge_by_contract Self.contract
-    ///     I.IntoFallibleIter.contract F.FnMut)) result k }
+    ///     → AtMost (seen_as merge_by.merge_by_parts (merge_by.merge_by_contract
+    ///     (sides.fused_contract Self.contract)
+    ///     (sides.fused_contract I.IntoFallibleIter.contract) F.FnMut)) result k }
     /// ensures lists { (h : Self.Item → Self.Item → Result Bool Self.Error)
     ///     → list.ActsWith (call_at_two F.FnMut) f h
     ///     → OverBoth Self.contract.steps self I.into_gives other
     ///     I.IntoFallibleIter.contract.steps
     ///     (λ a b. list.Lists (seen_as merge_by.merge_by_parts
-    ///     (merge_by.merge_by_contract Self.contract
-    ///     I.IntoFallibleIter.contract F.FnMut)).steps result (merge_by.merged h a b)) }
+    ///     (merge_by.merge_by_contract (sides.fused_contract Self.contract)
+    ///     (sides.fused_contract I.IntoFallibleIter.contract) F.FnMut)).steps result
+    ///     (merge_by.merged h a b)) }
     /// ensures for_good { (h : Self.Item → Self.Item → Result Bool Self.Error)
     ///     → list.ActsWith (call_at_two F.FnMut) f h
     ///     → OverBoth Self.contract.steps self I.into_gives other
     ///     I.IntoFallibleIter.contract.steps
     ///     (λ a b. list.ListsForGood (seen_as merge_by.merge_by_parts
-    ///     (merge_by.merge_by_contract Self.contract
-    ///     I.IntoFallibleIter.contract F.FnMut)).steps result (merge_by.merged h a b)) }
+    ///     (merge_by.merge_by_contract (sides.fused_contract Self.contract)
+    ///     (sides.fused_contract I.IntoFallibleIter.contract) F.FnMut)).steps result
+    ///     (merge_by.merged h a b)) }
     /// ```
     /// </details>
     fn merge_by<I, F>(self, other: I, f: F) -> MergeBy<Self, I::IntoFallibleIter, F>
@@ -1580,21 +1586,24 @@ pub trait FallibleItertools: FallibleIterator + Sized {
     ///     → I.IntoFallibleIter.contract.bound
     ///     (sides.right_source (merge_by.merge_join_by_parts result)) b → a + b ≤ k
     ///     → AtMost (seen_as merge_by.merge_join_by_parts (merge_by.merge_join_by_contract
-    ///     Self.contract I.IntoFallibleIter.contract F.FnMut)) result k }
+    ///     (sides.fused_contract Self.contract)
+    ///     (sides.fused_contract I.IntoFallibleIter.contract) F.FnMut)) result k }
     /// ensures lists { (h : Self.Item → I.Item → Result Ordering Self.Error)
     ///     → list.ActsWith (merge_by.call_at_both F.FnMut) f h
     ///     → OverBoth Self.contract.steps self I.into_gives other
     ///     I.IntoFallibleIter.contract.steps
     ///     (λ a b. list.Lists (seen_as merge_by.merge_join_by_parts
-    ///     (merge_by.merge_join_by_contract Self.contract
-    ///     I.IntoFallibleIter.contract F.FnMut)).steps result (merge_by.merge_joined h a b)) }
+    ///     (merge_by.merge_join_by_contract (sides.fused_contract Self.contract)
+    ///     (sides.fused_contract I.IntoFallibleIter.contract) F.FnMut)).steps result
+    ///     (merge_by.merge_joined h a b)) }
     /// ensures for_good { (h : Self.Item → I.Item → Result Ordering Self.Error)
     ///     → list.ActsWith (merge_by.call_at_both F.FnMut) f h
     ///     → OverBoth Self.contract.steps self I.into_gives other
     ///     I.IntoFallibleIter.contract.steps
     ///     (λ a b. list.ListsForGood (seen_as merge_by.merge_join_by_parts
-    ///     (merge_by.merge_join_by_contract Self.contract
-    ///     I.IntoFallibleIter.contract F.FnMut)).steps result (merge_by.merge_joined h a b)) }
+    ///     (merge_by.merge_join_by_contract (sides.fused_contract Self.contract)
+    ///     (sides.fused_contract I.IntoFallibleIter.contract) F.FnMut)).steps result
+    ///     (merge_by.merge_joined h a b)) }
     /// ```
     /// </details>
     fn merge_join_by<I, F>(self, other: I, f: F) -> MergeJoinBy<Self, I::IntoFallibleIter, F>
@@ -1632,17 +1641,20 @@ pub trait FallibleItertools: FallibleIterator + Sized {
     ///     → I.IntoFallibleIter.contract.bound
     ///     (sides.right_source (pad_using.zip_longest_parts result)) b → a + b ≤ k
     ///     → AtMost (seen_as pad_using.zip_longest_parts
-    ///     (pad_using.zip_longest_contract Self.contract I.IntoFallibleIter.contract)) result k }
+    ///     (pad_using.zip_longest_contract (sides.fused_contract Self.contract)
+    ///     (sides.fused_contract I.IntoFallibleIter.contract))) result k }
     /// ensures lists { OverBoth Self.contract.steps self I.into_gives other
     ///     I.IntoFallibleIter.contract.steps
     ///     (λ a b. list.Lists (seen_as pad_using.zip_longest_parts
-    ///     (pad_using.zip_longest_contract Self.contract
-    ///     I.IntoFallibleIter.contract)).steps result (pad_using.zipped_longest a b)) }
+    ///     (pad_using.zip_longest_contract (sides.fused_contract Self.contract)
+    ///     (sides.fused_contract I.IntoFallibleIter.contract))).steps result
+    ///     (pad_using.zipped_longest a b)) }
     /// ensures for_good { OverBoth Self.contract.steps self I.into_gives other
     ///     I.IntoFallibleIter.contract.steps
     ///     (λ a b. list.ListsForGood (seen_as pad_using.zip_longest_parts
-    ///     (pad_using.zip_longest_contract Self.contract
-    ///     I.IntoFallibleIter.contract)).steps result (pad_using.zipped_longest a b)) }
+    ///     (pad_using.zip_longest_contract (sides.fused_contract Self.contract)
+    ///     (sides.fused_contract I.IntoFallibleIter.contract))).steps result
+    ///     (pad_using.zipped_longest a b)) }
     /// ```
     /// </details>
     fn zip_longest<I>(self, other: I) -> ZipLongest<Self, I::IntoFallibleIter>
@@ -1679,18 +1691,23 @@ pub trait FallibleItertools: FallibleIterator + Sized {
     /// ensures bounded { (a b k : ℕ) → Self.contract.bound self a
     ///     → I.IntoFallibleIter.contract.bound
     ///     (sides.right_source (pad_using.zip_eq_parts result)) b → a + b ≤ k
-    ///     → AtMost (seen_as pad_using.zip_eq_parts (pad_using.zip_eq_contract Self.contract
-    ///     I.IntoFallibleIter.contract F.FnMut)) result k }
+    ///     → AtMost (seen_as pad_using.zip_eq_parts (pad_using.zip_eq_contract
+    ///     (sides.fused_contract Self.contract)
+    ///     (sides.fused_contract I.IntoFallibleIter.contract) F.FnMut)) result k }
     /// ensures lists { (e : Self.Error) → list.Acts (call_of_none F.FnMut) unequal (λ _. e)
     ///     → OverBoth Self.contract.steps self I.into_gives other
     ///     I.IntoFallibleIter.contract.steps
-    ///     (λ a b. list.Lists (seen_as pad_using.zip_eq_parts (pad_using.zip_eq_contract Self.contract
-    ///     I.IntoFallibleIter.contract F.FnMut)).steps result (pad_using.zipped_equal e a b)) }
+    ///     (λ a b. list.Lists (seen_as pad_using.zip_eq_parts (pad_using.zip_eq_contract
+    ///     (sides.fused_contract Self.contract)
+    ///     (sides.fused_contract I.IntoFallibleIter.contract) F.FnMut)).steps result
+    ///     (pad_using.zipped_equal e a b)) }
     /// ensures for_good { (e : Self.Error) → list.Acts (call_of_none F.FnMut) unequal (λ _. e)
     ///     → OverBoth Self.contract.steps self I.into_gives other
     ///     I.IntoFallibleIter.contract.steps
-    ///     (λ a b. list.ListsForGood (seen_as pad_using.zip_eq_parts (pad_using.zip_eq_contract Self.contract
-    ///     I.IntoFallibleIter.contract F.FnMut)).steps result (pad_using.zipped_equal e a b)) }
+    ///     (λ a b. list.ListsForGood (seen_as pad_using.zip_eq_parts (pad_using.zip_eq_contract
+    ///     (sides.fused_contract Self.contract)
+    ///     (sides.fused_contract I.IntoFallibleIter.contract) F.FnMut)).steps result
+    ///     (pad_using.zipped_equal e a b)) }
     /// ```
     /// </details>
     fn zip_eq<I, F>(self, other: I, unequal: F) -> ZipEq<Self, I::IntoFallibleIter, F>
@@ -1729,17 +1746,20 @@ pub trait FallibleItertools: FallibleIterator + Sized {
     /// ensures bounded { (a b k : ℕ) → Self.contract.bound self a
     ///     → I.IntoFallibleIter.contract.bound (interleave.interleave_right result) b → a + b ≤ k
     ///     → AtMost (seen_as interleave.interleave_parts
-    ///     (interleave.interleave_contract Self.contract I.IntoFallibleIter.contract)) result k }
+    ///     (interleave.interleave_contract (sides.fused_contract Self.contract)
+    ///     (sides.fused_contract I.IntoFallibleIter.contract))) result k }
     /// ensures lists { OverBoth Self.contract.steps self I.into_gives other
     ///     I.IntoFallibleIter.contract.steps
     ///     (λ a b. list.Lists (seen_as interleave.interleave_parts
-    ///     (interleave.interleave_contract Self.contract
-    ///     I.IntoFallibleIter.contract)).steps result (interleave.interleaved a b)) }
+    ///     (interleave.interleave_contract (sides.fused_contract Self.contract)
+    ///     (sides.fused_contract I.IntoFallibleIter.contract))).steps result
+    ///     (interleave.interleaved a b)) }
     /// ensures for_good { OverBoth Self.contract.steps self I.into_gives other
     ///     I.IntoFallibleIter.contract.steps
     ///     (λ a b. list.ListsForGood (seen_as interleave.interleave_parts
-    ///     (interleave.interleave_contract Self.contract
-    ///     I.IntoFallibleIter.contract)).steps result (interleave.interleaved a b)) }
+    ///     (interleave.interleave_contract (sides.fused_contract Self.contract)
+    ///     (sides.fused_contract I.IntoFallibleIter.contract))).steps result
+    ///     (interleave.interleaved a b)) }
     /// ```
     /// </details>
     fn interleave<I>(self, other: I) -> Interleave<Self, I::IntoFallibleIter>
@@ -1777,14 +1797,16 @@ pub trait FallibleItertools: FallibleIterator + Sized {
     ///     (pad_using.pad_using_indices result)) f }
     /// ensures bounded { (a k : ℕ) → Self.contract.bound self a → a + n ≤ k
     ///     → AtMost (seen_as pad_using.pad_using_parts
-    ///     (pad_using.pad_using_contract Self.contract F.FnMut)) result k }
+    ///     (pad_using.pad_using_contract (sides.fused_contract Self.contract) F.FnMut)) result k }
     /// ensures lists { OverListWith (list.Acts (call_by_value F.FnMut) f) Self.contract.steps self
     ///     (λ h l. list.Lists (seen_as pad_using.pad_using_parts
-    ///     (pad_using.pad_using_contract Self.contract F.FnMut)).steps result
+    ///     (pad_using.pad_using_contract
+    ///     (sides.fused_contract Self.contract) F.FnMut)).steps result
     ///     (pad_using.padded n h l)) }
     /// ensures for_good { OverListWith (list.Acts (call_by_value F.FnMut) f) Self.contract.steps self
     ///     (λ h l. list.ListsForGood (seen_as pad_using.pad_using_parts
-    ///     (pad_using.pad_using_contract Self.contract F.FnMut)).steps result
+    ///     (pad_using.pad_using_contract
+    ///     (sides.fused_contract Self.contract) F.FnMut)).steps result
     ///     (pad_using.padded n h l)) }
     /// ```
     /// </details>

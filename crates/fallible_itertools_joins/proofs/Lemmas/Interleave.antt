@@ -114,8 +114,8 @@ module _ {S U A E : Type 0} (steps : S → Answered A E → S → Type 0) (other
   gives_for_good_in_turn s u a b i k = gives_for_good_where_each_answers_first (TurnStep steps others) (ListInTurn steps others) (λ p q r l d w. step_in_turn_answers_first p q r l d w) (interleaved a b) (s, u, false) (a, b, i, k, refl)
 
 module _ {S U A E : Type 0} (left : Contract S A E) (right : Contract U A E) (c : Interleave S U) {p : Fuse S} {q : Fuse U} (s : S) (u : U) (a b : List (Result A E)) where
-  pub lists_for_good_interleaved : interleave_parts c ≡ (p, q, false) → fuse_parts p ≡ (s, false) → fuse_parts q ≡ (u, false) → Lists left.steps s a → Lists right.steps u b → ListsForGood (seen_as interleave_parts (interleave_contract left right)).steps c (interleaved a b)
-  lists_for_good_interleaved parts fresh also i k = lists_for_good_seen interleave_parts (interleave_contract left right).steps c parts refl (gives_for_good_in_turn (fused_contract left).steps (fused_contract right).steps p q a b (gives_for_good_of_fresh left p s a fresh i) (gives_for_good_of_fresh right q u b also k))
+  pub lists_for_good_interleaved : interleave_parts c ≡ (p, q, false) → fuse_parts p ≡ (s, false) → fuse_parts q ≡ (u, false) → Lists left.steps s a → Lists right.steps u b → ListsForGood (seen_as interleave_parts (interleave_contract (fused_contract left) (fused_contract right))).steps c (interleaved a b)
+  lists_for_good_interleaved parts fresh also i k = lists_for_good_seen interleave_parts (interleave_contract (fused_contract left) (fused_contract right)).steps c parts refl (gives_for_good_in_turn (fused_contract left).steps (fused_contract right).steps p q a b (gives_for_good_of_fresh left p s a fresh i) (gives_for_good_of_fresh right q u b also k))
 
-  pub lists_interleaved : interleave_parts c ≡ (p, q, false) → fuse_parts p ≡ (s, false) → fuse_parts q ≡ (u, false) → Lists left.steps s a → Lists right.steps u b → Lists (seen_as interleave_parts (interleave_contract left right)).steps c (interleaved a b)
+  pub lists_interleaved : interleave_parts c ≡ (p, q, false) → fuse_parts p ≡ (s, false) → fuse_parts q ≡ (u, false) → Lists left.steps s a → Lists right.steps u b → Lists (seen_as interleave_parts (interleave_contract (fused_contract left) (fused_contract right))).steps c (interleaved a b)
   lists_interleaved parts fresh also i k = lists_once _ (lists_for_good_interleaved parts fresh also i k)

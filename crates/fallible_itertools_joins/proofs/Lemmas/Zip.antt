@@ -76,7 +76,7 @@ module _ {A B C E : Type 0} (q : Result (EitherOrBoth A B) E → Result C E) (fa
 -- ---- what it lists
 
 module _ {S U A B E : Type 0} (left : Contract S A E) (right : Contract U B E) (c : ZipLongest S U A E) {p : Fuse S} {q : Fuse U} (s : S) (u : U) (a : List (Result A E)) (b : List (Result B E)) where
-  pub lists_for_good_zipped_longest : zip_longest_parts c ≡ (p, q, None) → fuse_parts p ≡ (s, false) → fuse_parts q ≡ (u, false) → Lists left.steps s a → Lists right.steps u b → ListsForGood (seen_as zip_longest_parts (zip_longest_contract left right)).steps c (zipped_longest a b)
+  pub lists_for_good_zipped_longest : zip_longest_parts c ≡ (p, q, None) → fuse_parts p ≡ (s, false) → fuse_parts q ≡ (u, false) → Lists left.steps s a → Lists right.steps u b → ListsForGood (seen_as zip_longest_parts (zip_longest_contract (fused_contract left) (fused_contract right))).steps c (zipped_longest a b)
   lists_for_good_zipped_longest parts fresh also i k = lists_for_good_holding (fused_contract left).steps (fused_contract right).steps MakesLongest (λ f. f ≡ tt) zipped_longest lists_by_longest (holds_taken (λ k. Equal) (λ t. t) (λ f x y v g. v ≡ Ok tt)) (λ d. ((zip_longest_parts d).0, (zip_longest_parts d).1, (((zip_longest_parts d).2, None), tt))) c a b (ap (λ (z : Fuse S × Fuse U × Option A). (z.0, z.1, ((z.2, None), tt))) parts) (gives_for_good_of_fresh left p s a fresh i) (gives_for_good_of_fresh right q u b also k) refl
 
 -- ---- What `ZipEq` lists
@@ -98,7 +98,7 @@ module _ {F A B E : Type 0} (e : E) (call : F → Unit {0} → E → F → Type 
 -- ---- what it lists
 
 module _ {S U F A B E : Type 0} (left : Contract S A E) (right : Contract U B E) (g : Mut F (Unit {0}) E) (c : ZipEq S U F A E) {p : Fuse S} {q : Fuse U} (s : S) (u : U) (f : F) (e : E) (a : List (Result A E)) (b : List (Result B E)) where
-  pub lists_for_good_zipped_equal : zip_eq_parts c ≡ (p, q, (None, f)) → fuse_parts p ≡ (s, false) → fuse_parts q ≡ (u, false) → Acts (call_of_none g) f (λ _. e) → Lists left.steps s a → Lists right.steps u b → ListsForGood (seen_as zip_eq_parts (zip_eq_contract left right g)).steps c (zipped_equal e a b)
+  pub lists_for_good_zipped_equal : zip_eq_parts c ≡ (p, q, (None, f)) → fuse_parts p ≡ (s, false) → fuse_parts q ≡ (u, false) → Acts (call_of_none g) f (λ _. e) → Lists left.steps s a → Lists right.steps u b → ListsForGood (seen_as zip_eq_parts (zip_eq_contract (fused_contract left) (fused_contract right) g)).steps c (zipped_equal e a b)
   lists_for_good_zipped_equal parts fresh also acts i k = lists_for_good_holding (fused_contract left).steps (fused_contract right).steps (MakesPair (call_of_none g)) (λ k. k ≡ f) (λ a b. zipped_equal e a b) (lists_by_pair e (call_of_none g) f acts) (holds_pair (call_of_none g) (takes_none g)) (λ d. ((zip_eq_parts d).0, (zip_eq_parts d).1, (((zip_eq_parts d).2.0, None), (zip_eq_parts d).2.1))) c a b (ap (λ (z : Fuse S × Fuse U × (Option A × F)). (z.0, z.1, ((z.2.0, None), z.2.1))) parts) (gives_for_good_of_fresh left p s a fresh i) (gives_for_good_of_fresh right q u b also k) refl
 
 -- ---- What `PadUsing` lists
@@ -172,10 +172,10 @@ module _ {X E : Type 0} (h : ℕ → Result X E) where
 
 -- ---- what it lists
 
-pub lists_for_good_padded : {S F A E : Type 0} {p : Fuse S} (m : Contract S A E) (g : Mut F (ℕ × Unit {0}) (Result A E)) (s : PadUsing S F) (f : F) (n : ℕ) (it : S) (h : ℕ → Result A E) (l : List (Result A E)) → pad_using_parts s ≡ (p, (0, n), f) → fuse_parts p ≡ (it, false) → Acts (call_by_value g) f h → Lists m.steps it l → ListsForGood (parts_as pad_using_parts (pad_using_contract m g)).steps s (padded n h l)
-lists_for_good_padded {S = S} {F = F} {E = E} {p = p} m g s f n it h l parts fresh acts i = subst (λ (k : List (Result _ E)). ListsForGood (parts_as pad_using_parts (pad_using_contract m g)).steps s k) (pads_to_padded h n l) (lists_for_good_holding (fused_contract m).steps (IndexSteps E) (MakesPadded (call_by_value g)) (λ k. k ≡ f) (λ a b. map (pad_or h) (zipped_longest a b)) (lists_by_padded h (call_by_value g) f acts) (holds_padded (call_by_value g) (λ f i. Unit {0})) (λ d. ((pad_using_parts d).0, (pad_using_parts d).1, ((None, None), (pad_using_parts d).2))) s l (indices_left (0, n)) (ap (λ (z : Fuse S × (ℕ × ℕ) × F). (z.0, z.1, ((None, None), z.2))) parts) (gives_for_good_of_fresh m p it l fresh i) (gives_indices E (0, n)) refl)
+pub lists_for_good_padded : {S F A E : Type 0} {p : Fuse S} (m : Contract S A E) (g : Mut F (ℕ × Unit {0}) (Result A E)) (s : PadUsing S F) (f : F) (n : ℕ) (it : S) (h : ℕ → Result A E) (l : List (Result A E)) → pad_using_parts s ≡ (p, (0, n), f) → fuse_parts p ≡ (it, false) → Acts (call_by_value g) f h → Lists m.steps it l → ListsForGood (parts_as pad_using_parts (pad_using_contract (fused_contract m) g)).steps s (padded n h l)
+lists_for_good_padded {S = S} {F = F} {E = E} {p = p} m g s f n it h l parts fresh acts i = subst (λ (k : List (Result _ E)). ListsForGood (parts_as pad_using_parts (pad_using_contract (fused_contract m) g)).steps s k) (pads_to_padded h n l) (lists_for_good_holding (fused_contract m).steps (IndexSteps E) (MakesPadded (call_by_value g)) (λ k. k ≡ f) (λ a b. map (pad_or h) (zipped_longest a b)) (lists_by_padded h (call_by_value g) f acts) (holds_padded (call_by_value g) (λ f i. Unit {0})) (λ d. ((pad_using_parts d).0, (pad_using_parts d).1, ((None, None), (pad_using_parts d).2))) s l (indices_left (0, n)) (ap (λ (z : Fuse S × (ℕ × ℕ) × F). (z.0, z.1, ((None, None), z.2))) parts) (gives_for_good_of_fresh m p it l fresh i) (gives_indices E (0, n)) refl)
 
-pub lists_padded : {S F A E : Type 0} {p : Fuse S} (m : Contract S A E) (g : Mut F (ℕ × Unit {0}) (Result A E)) (s : PadUsing S F) (f : F) (n : ℕ) (it : S) (h : ℕ → Result A E) (l : List (Result A E)) → pad_using_parts s ≡ (p, (0, n), f) → fuse_parts p ≡ (it, false) → Acts (call_by_value g) f h → Lists m.steps it l → Lists (parts_as pad_using_parts (pad_using_contract m g)).steps s (padded n h l)
+pub lists_padded : {S F A E : Type 0} {p : Fuse S} (m : Contract S A E) (g : Mut F (ℕ × Unit {0}) (Result A E)) (s : PadUsing S F) (f : F) (n : ℕ) (it : S) (h : ℕ → Result A E) (l : List (Result A E)) → pad_using_parts s ≡ (p, (0, n), f) → fuse_parts p ≡ (it, false) → Acts (call_by_value g) f h → Lists m.steps it l → Lists (parts_as pad_using_parts (pad_using_contract (fused_contract m) g)).steps s (padded n h l)
 lists_padded m g s f n it h l parts fresh acts i = lists_once _ (lists_for_good_padded m g s f n it h l parts fresh acts i)
 
 -- ---- how long it is

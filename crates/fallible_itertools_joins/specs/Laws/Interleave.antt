@@ -4,6 +4,7 @@ use Rattle.std.proofs.Common.{arith, inl, inr, refl, subst}
 use Rattle.fallible_iterator.specs.Contract.{Contract, Lawful}
 use Rattle.fallible_iterator.specs.Traces.{Answered, item, end}
 use Rattle.fallible_itertools_joins.specs.Interleave.{TakesTurn, TakesTurnOf, interleave_contract, turns}
+use Rattle.fallible_itertools_joins.specs.Sides.{fused_contract}
 use Rattle.fallible_itertools_joins.specs.Laws.Sides.{Counts, IsLawfulJoin, NoFailure, OfDrawn, Owed, answers_drawn, items_drawn, lawful_joined}
 use Rattle.fallible_itertools_joins.specs.Laws.Merge.{sum_bounds}
 
@@ -55,5 +56,5 @@ module _ {A E : Type 0} where
     bounds = λ t g k. sum_bounds g k;
   }
 
-pub lawful_interleave : {S U A E : Type 0} {left : Contract S A E} {right : Contract U A E} → Lawful left → Lawful right → Lawful (interleave_contract left right)
+pub lawful_interleave : {S U A E : Type 0} {left : Contract S A E} {right : Contract U A E} → Lawful left → Lawful right → Lawful (interleave_contract (fused_contract left) (fused_contract right))
 lawful_interleave l k = lawful_joined turns l k is_lawful_turns counts_turns

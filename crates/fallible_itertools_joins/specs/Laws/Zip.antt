@@ -13,7 +13,7 @@ use Rattle.fallible_iterator.specs.Sources.FromFn.{call_of_none}
 use Rattle.fallible_iterator.specs.Traces.{Answered, item, end, Run, Yields}
 use Rattle.fallible_iterator.specs.Laws.Closures.{reaches_reflexive, reaches_by_call_first, is_callable_after, may_answer_of_call, may_answer_where_reached_may_answer}
 use Rattle.fallible_iterator.specs.Laws.LawForm.{IsTraced}
-use Rattle.fallible_itertools_joins.specs.Sides.{MakesTaken, OfEachSide, holding}
+use Rattle.fallible_itertools_joins.specs.Sides.{MakesTaken, OfEachSide, fused_contract, holding}
 use Rattle.fallible_itertools_joins.specs.Zip.{IndexTrace, MakesPadded, MakesPair, from_index, greater_bound, hint_greater, index_contract, index_step, longest_join, pad_using_contract, padding, pair_join, takes_none, zip_eq_contract, zip_longest_contract}
 use Rattle.fallible_itertools_joins.specs.Laws.Sides.{Bounds, Counts, CountsHolding, Follows, IsLawfulHolding, IsLawfulJoin, MadeOf, MakesOneAtLeast, MakesOneAtMost, NoItemAfterEnd, OfItem, counts_as, counts_holding, is_lawful_holding, is_lawful_join_as, lawful_beside, lawful_joined}
 use Rattle.fallible_itertools_joins.specs.Laws.Taken.{counts_both_taken, holds_taken, made_taken, of_each_where_each_implies}
@@ -61,7 +61,7 @@ greater_bounds g k = record { below = λ n i j few low also. omega (arith, few, 
 counts_longest : {A B E : Type 0} → Counts (longest_join {A = A} {B = B} {E = E})
 counts_longest {A = A} {B = B} = counts_as {V = (Option A × Option B) × Unit {0}} (λ h. ((h, None), tt)) (holding Taken Askable Gives Refuses hint_greater) (counts_holding Taken max max hint_greater (counts_both_taken (λ k. Equal) (λ t. t) (λ f x y v g. v ≡ Ok tt) hint_greater (λ k. refl) greater_bounds) Askable Gives Refuses)
 
-pub lawful_zip_longest : {S U A B E : Type 0} {left : Contract S A E} {right : Contract U B E} → Lawful left → Lawful right → Lawful (zip_longest_contract left right)
+pub lawful_zip_longest : {S U A B E : Type 0} {left : Contract S A E} {right : Contract U B E} → Lawful left → Lawful right → Lawful (zip_longest_contract (fused_contract left) (fused_contract right))
 lawful_zip_longest l k = lawful_joined longest_join l k is_lawful_join_longest counts_longest
 
 -- ---- The contract of `ZipEq` is lawful where those of both sides are
@@ -128,7 +128,7 @@ module _ {F A B E : Type 0} (call : F → Unit {0} → E → F → Type 0) (take
   counts_pair : Counts (pair_join {A = A} {B = B} call takes)
   counts_pair = counts_as (λ t. ((t.0, None), t.1)) _ (counts_holding (MakesPair call) min min hint_smaller counts_made_pair (PairAskable call takes) (λ P Q f z. P z.0 × Q z.1) (PairRefuses call takes))
 
-pub lawful_zip_eq : {S U F A B E : Type 0} {left : Contract S A E} {right : Contract U B E} (g : Mut F (Unit {0}) E) → Lawful left → Lawful right → Lawful (zip_eq_contract left right g)
+pub lawful_zip_eq : {S U F A B E : Type 0} {left : Contract S A E} {right : Contract U B E} (g : Mut F (Unit {0}) E) → Lawful left → Lawful right → Lawful (zip_eq_contract (fused_contract left) (fused_contract right) g)
 lawful_zip_eq g l k = lawful_joined (pair_join (call_of_none g) (takes_none g)) l k (is_lawful_pair_join (call_of_none g) (takes_none g)) (counts_pair (call_of_none g) (takes_none g))
 
 -- ---- The contract of `PadUsing` is lawful where the source's is
@@ -271,5 +271,5 @@ module _ {F A E : Type 0} (call : F → ℕ → Result A E → F → Type 0) (ta
   counts_padding : Counts (padding call takes)
   counts_padding = counts_as (λ f. ((None, None), f)) _ (counts_holding (MakesPadded call) max max hint_greater counts_padded (PadAskable call takes) (PadGives call takes) (PadRefuses call takes))
 
-pub lawful_pad_using : {S F A E : Type 0} {m : Contract S A E} (g : Mut F (ℕ × Unit {0}) (Result A E)) → Lawful m → Lawful (pad_using_contract m g)
+pub lawful_pad_using : {S F A E : Type 0} {m : Contract S A E} (g : Mut F (ℕ × Unit {0}) (Result A E)) → Lawful m → Lawful (pad_using_contract (fused_contract m) g)
 lawful_pad_using {E = E} g l = lawful_beside (padding (call_by_value g) (takes_by_value g)) l lawful_index (no_item_after_end_of_indices E) (is_lawful_padding (call_by_value g) (takes_by_value g)) (counts_padding (call_by_value g) (takes_by_value g))

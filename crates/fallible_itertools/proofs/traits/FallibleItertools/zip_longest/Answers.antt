@@ -4,6 +4,7 @@ use Rattle.std.proofs.Common.{sym, subst, inr, arith}
 use Rattle.fallible_iterator.specs.Contract.{AtMost}
 use Rattle.fallible_iterator.specs.Cutting.Fuse.{fuse_contract, fuse_source}
 use Rattle.fallible_itertools_joins.specs.Zip.{zip_longest_contract}
+use Rattle.fallible_itertools_joins.specs.Sides.{fused_contract}
 use Rattle.fallible_iterator.proofs.Lemmas.Lists.ForGood.{lists_once}
 use Rattle.fallible_itertools_joins.proofs.Lemmas.Zip.{lists_for_good_zipped_longest}
 use Rattle.fallible_itertools.proofs.traits.FallibleItertools.zip_longest.Goals as goal
@@ -15,4 +16,4 @@ pub returns-clause-for_good : goal.returns-clause-for_good
 returns-clause-for_good g c a b i k = lists_for_good_zipped_longest g.Self.FallibleIterator.contract g.I.IntoFallibleIter.FallibleIterator.contract _ _ _ a b c.new.ensures c.fuse.ensures.parts c.fuse-2.ensures.parts i (k _ c.into_fallible_iter.ensures)
 
 pub returns-clause-bounded : goal.returns-clause-bounded
-returns-clause-bounded g c a b k x y le = subst (λ s. AtMost (zip_longest_contract g.Self.FallibleIterator.contract g.I.IntoFallibleIter.FallibleIterator.contract) s k) (sym c.new.ensures) (inr (a + b, (a, b, subst (λ p. (fuse_contract g.Self.FallibleIterator.contract).bound p a) (sym c.fuse.ensures.parts) x, subst (λ s. g.I.IntoFallibleIter.FallibleIterator.contract.bound (fuse_source s.1) b) c.new.ensures y, omega arith), le))
+returns-clause-bounded g c a b k x y le = subst (λ s. AtMost (zip_longest_contract (fused_contract g.Self.FallibleIterator.contract) (fused_contract g.I.IntoFallibleIter.FallibleIterator.contract)) s k) (sym c.new.ensures) (inr (a + b, (a, b, subst (λ p. (fuse_contract g.Self.FallibleIterator.contract).bound p a) (sym c.fuse.ensures.parts) x, subst (λ s. g.I.IntoFallibleIter.FallibleIterator.contract.bound (fuse_source s.1) b) c.new.ensures y, omega arith), le))
