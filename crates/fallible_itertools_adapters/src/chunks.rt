@@ -1,5 +1,5 @@
 // The adapters that yield batches of items, and groups of adjacent items with equal keys.
-ghost use Rattle.std.specs.Prelude.{◌≡◌, ⊤, MatchResult, None, Option, Result, max, Ok};
+ghost use Rattle.std.specs.Prelude.{◌≡◌, MatchResult, None, Option, Result, max, Ok};
 ghost use Rattle.std.specs.Int.{div_ceil};
 ghost use Rattle.std.specs.declared.alloc.Global.{Global};
 ghost use Rattle.std.specs.declared.vec.Vec.{Vec};
@@ -10,8 +10,8 @@ ghost use Rattle.fallible_itertools_adapters.specs.Staging.{DrawsUpTo, IsTransit
 ghost use Rattle.fallible_itertools_adapters.specs.Laws.Chunks.{is_stage_chunk_by, is_stage_chunks, lawful_chunk_by, lawful_chunks};
 
 use crate::staging::{
-    AnswerAndDue, Emitted, Stage, Stop, drive_stage, emitted_of, hint_with_held, let_go, next_until, one, put_due,
-    stop_answer, with_held,
+    AnswerAndDue, Emitted, Stage, Stop, drive_stage, emitted_of, hint_with_held, let_go,
+    next_until, one, put_due, stop_answer, with_held,
 };
 use fallible_iterator::extending::{alone, pushed};
 use fallible_iterator::{FallibleIterator, Turn};
@@ -125,8 +125,11 @@ impl<X: Drop, E: From<AllocError>> Stage<((usize, Option<Vec<X>>), ()), X, E> fo
     ghost rule = { chunks_rule E.from_gives };
 
     #[inline(always)]
-    fn on_item(&self, p: &mut ((usize, Option<Vec<X>>), ()), item: X) -> Emitted<Vec<X>, Stop<E>, E>
-    {
+    fn on_item(
+        &self,
+        p: &mut ((usize, Option<Vec<X>>), ()),
+        item: X,
+    ) -> Emitted<Vec<X>, Stop<E>, E> {
         match grown(self.alloc, p.0.0, &mut p.0.1, item) {
             Ok(count) => {
                 if count < p.0.0 {
@@ -276,8 +279,11 @@ impl<X: Drop, K: PartialEq + Drop, E: From<AllocError>, F: FnMut(&X) -> Result<K
     ghost rule = { chunk_by_rule E.from_gives K.eq F.FnMut };
 
     #[inline(always)]
-    fn on_item(&self, p: &mut (Option<(K, Vec<X>)>, F), item: X) -> Emitted<(K, Vec<X>), Stop<E>, E>
-    {
+    fn on_item(
+        &self,
+        p: &mut (Option<(K, Vec<X>)>, F),
+        item: X,
+    ) -> Emitted<(K, Vec<X>), Stop<E>, E> {
         match (p.1)(&item) {
             Ok(key) => grouped(self.alloc, &mut p.0, key, item),
             Err(e) => let_go(p.0.take(), Some(e)),

@@ -1,6 +1,6 @@
 // The adapters that merge adjacent items, or yield the first of those that are the same.
-ghost use Rattle.std.specs.Prelude.{Option, Result, None, ◌≡◌, ⊤};
-ghost use Rattle.fallible_iterator.specs.Closures.{call_by_reference, takes_by_reference};
+ghost use Rattle.std.specs.Prelude.{Option, Result, None, ◌≡◌};
+ghost use Rattle.fallible_iterator.specs.Closures.{call_by_reference};
 ghost use Rattle.fallible_iterator.specs.Contract.{parts_as};
 ghost use Rattle.fallible_iterator.specs.Laws.Contract.{lawful_parts};
 ghost use Rattle.fallible_itertools_adapters.specs.Coalesce.{are_equal, coalesce_call, coalesce_contract, coalesce_made, coalesce_parts, coalesced_by, counted_by, dedup_by_contract, dedup_by_key_contract, dedup_by_key_made, dedup_by_key_parts, dedup_by_made, dedup_by_parts, dedup_by_with_count_contract, dedup_by_with_count_made, dedup_by_with_count_parts, dedup_contract, dedup_made, dedup_parts, dedup_with_count_contract, dedup_with_count_made, dedup_with_count_parts, keyed_by, keyed_item, same_by, same_call, coalesce_rule, dedup_by_key_rule, dedup_by_rule, dedup_by_with_count_rule, dedup_rule, dedup_with_count_rule};
@@ -8,8 +8,8 @@ ghost use Rattle.fallible_itertools_adapters.specs.Staging.{IsTransition, calls_
 ghost use Rattle.fallible_itertools_adapters.specs.Laws.Coalesce.{is_stage_coalesce, is_stage_count, is_stage_dedup, is_stage_dedup_by, is_stage_dedup_key, lawful_coalesce, lawful_dedup, lawful_dedup_by, lawful_dedup_by_key, lawful_dedup_by_with_count, lawful_dedup_with_count};
 
 use crate::staging::{
-    AnswerAndDue, Emitted, Stage, Stop, drawn_until, drive_stage, hint_with_held, let_go, next_until, one, put_due,
-    stop_answer,
+    AnswerAndDue, Emitted, Stage, Stop, drawn_until, drive_stage, hint_with_held, let_go,
+    next_until, one, put_due, stop_answer,
 };
 use fallible_iterator::{FallibleIterator, Turn};
 
@@ -81,8 +81,7 @@ impl<X: Drop, E, F: FnMut(X, X) -> Result<Result<X, (X, X)>, E>> Stage<(Option<X
     ghost rule = { coalesce_rule F.FnMut };
 
     #[inline(always)]
-    fn on_item(&self, p: &mut (Option<X>, F), item: X) -> Emitted<X, Stop<E>, E>
-    {
+    fn on_item(&self, p: &mut (Option<X>, F), item: X) -> Emitted<X, Stop<E>, E> {
         match p.0.take() {
             None => {
                 p.0 = Some(item);
@@ -197,8 +196,7 @@ impl<X: PartialEq + Drop, E> Stage<(Option<X>, ()), X, E> for DedupStage {
     ghost rule = { dedup_rule X.eq };
 
     #[inline(always)]
-    fn on_item(&self, p: &mut (Option<X>, ()), item: X) -> Emitted<X, Stop<E>, E>
-    {
+    fn on_item(&self, p: &mut (Option<X>, ()), item: X) -> Emitted<X, Stop<E>, E> {
         let (kept, emitted) = match p.0.take() {
             None => (item, None),
             Some(first) => {
@@ -293,8 +291,7 @@ impl<X: Drop, E, F: FnMut(&X, &X) -> Result<bool, E>> Stage<(Option<X>, F), X, E
     ghost rule = { dedup_by_rule F.FnMut };
 
     #[inline(always)]
-    fn on_item(&self, p: &mut (Option<X>, F), item: X) -> Emitted<X, Stop<E>, E>
-    {
+    fn on_item(&self, p: &mut (Option<X>, F), item: X) -> Emitted<X, Stop<E>, E> {
         match p.0.take() {
             None => {
                 p.0 = Some(item);
@@ -409,8 +406,7 @@ impl<X: Drop, E, K: PartialEq + Drop, F: FnMut(&X) -> Result<K, E>> Stage<(Optio
     ghost rule = { dedup_by_key_rule K.eq F.FnMut };
 
     #[inline(always)]
-    fn on_item(&self, p: &mut (Option<(K, X)>, F), item: X) -> Emitted<X, Stop<E>, E>
-    {
+    fn on_item(&self, p: &mut (Option<(K, X)>, F), item: X) -> Emitted<X, Stop<E>, E> {
         let key = (p.1)(&item);
         let (kept, emitted) = by_key(p.0.take(), item, key);
         p.0 = kept;
@@ -540,8 +536,11 @@ impl<X: PartialEq + Drop, E> Stage<(Option<(usize, X)>, ()), X, E> for EqualCoun
     ghost rule = { dedup_with_count_rule X.eq };
 
     #[inline(always)]
-    fn on_item(&self, p: &mut (Option<(usize, X)>, ()), item: X) -> Emitted<(usize, X), Stop<E>, E>
-    {
+    fn on_item(
+        &self,
+        p: &mut (Option<(usize, X)>, ()),
+        item: X,
+    ) -> Emitted<(usize, X), Stop<E>, E> {
         let (kept, emitted) = match p.0.take() {
             None => ((1, item), None),
             Some((count, first)) => {
@@ -643,8 +642,7 @@ impl<X: Drop, E, F: FnMut(&X, &X) -> Result<bool, E>> Stage<(Option<(usize, X)>,
     ghost rule = { dedup_by_with_count_rule F.FnMut };
 
     #[inline(always)]
-    fn on_item(&self, p: &mut (Option<(usize, X)>, F), item: X) -> Emitted<(usize, X), Stop<E>, E>
-    {
+    fn on_item(&self, p: &mut (Option<(usize, X)>, F), item: X) -> Emitted<(usize, X), Stop<E>, E> {
         match p.0.take() {
             None => {
                 p.0 = Some((1, item));

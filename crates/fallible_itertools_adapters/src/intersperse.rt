@@ -1,5 +1,5 @@
 // The adapters that put a separator between each two adjacent items.
-ghost use Rattle.std.specs.Prelude.{◌≡◌, ◌^◌, ◌-◌, min, Option, Result, ⊤, None, false};
+ghost use Rattle.std.specs.Prelude.{◌≡◌, ◌^◌, ◌-◌, min, Option, Result, None, false};
 ghost use Rattle.fallible_iterator.specs.Contract.{parts_as};
 ghost use Rattle.fallible_iterator.specs.Lists.{result_answer};
 ghost use Rattle.fallible_iterator.specs.Sources.FromFn.{call_of_none};
@@ -82,8 +82,7 @@ impl<X: Clone + Drop, E: From<AllocError>> Stage<(bool, X), X, E> for SeparatorC
     ghost rule = { intersperse_rule (separator_cloned X.is_clone X.is_infallible E.from_gives) };
 
     #[inline(always)]
-    fn on_item(&self, p: &mut (bool, X), item: X) -> Emitted<X, X, E>
-    {
+    fn on_item(&self, p: &mut (bool, X), item: X) -> Emitted<X, X, E> {
         if p.0 {
             match p.1.clone() {
                 Ok(copy) => separated(Ok(copy), item),
@@ -233,8 +232,7 @@ impl<X, E, F: FnMut() -> Result<X, E>> Stage<(bool, F), X, E> for SeparatorCall 
     ghost rule = { intersperse_with_rule F.FnMut };
 
     #[inline(always)]
-    fn on_item(&self, p: &mut (bool, F), item: X) -> Emitted<X, X, E>
-    {
+    fn on_item(&self, p: &mut (bool, F), item: X) -> Emitted<X, X, E> {
         if p.0 {
             separated((p.1)(), item)
         } else {

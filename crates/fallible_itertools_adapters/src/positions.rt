@@ -1,5 +1,5 @@
 // The adapters that yield positions, alone or beside their items.
-ghost use Rattle.std.specs.Prelude.{Result, Option, ◌≡◌, ⊤, None};
+ghost use Rattle.std.specs.Prelude.{Result, Option, ◌≡◌, None};
 ghost use Rattle.fallible_iterator.specs.Closures.{call_by_value, takes_by_value};
 ghost use Rattle.fallible_iterator.specs.Contract.{seen_as, parts_as};
 ghost use Rattle.fallible_iterator.specs.OneToOne.Enumerate.{enumerate_contract, enumerate_made, enumerate_parts};
@@ -190,8 +190,7 @@ impl<X: Drop, E> Stage<(Option<(bool, X)>, ()), X, E> for PositionStage {
         &self,
         p: &mut (Option<(bool, X)>, ()),
         item: X,
-    ) -> Emitted<(Position, X), Stop<E>, E>
-    {
+    ) -> Emitted<(Position, X), Stop<E>, E> {
         let is_later = p.0.is_some();
         match replace(&mut p.0, Some((is_later, item))) {
             Some((was_later, before)) => one(Ok(Some((first_or_middle(was_later), before)))),

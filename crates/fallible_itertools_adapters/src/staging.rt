@@ -1,5 +1,5 @@
 //! Adapters of one source by what is emitted at each of its answers: nothing, or one answer and what is due after it.
-ghost use Rattle.std.specs.Prelude.{◌≡◌, ℕ, if◌then◌else◌, Option, Result, Some, None, Ok, Err};
+ghost use Rattle.std.specs.Prelude.{◌≡◌, if◌then◌else◌, Some, None, Ok, Err};
 ghost use Rattle.fallible_iterator.specs.Folds.{CallableDriving, Driven, TurnThrough, beside, beside_names};
 ghost use Rattle.fallible_iterator.specs.Passing.{IfItem};
 ghost use Rattle.fallible_itertools_adapters.specs.Staging.{before_stop, held_hint, DrawsUpTo, DueTakes, DueTold, IsStage, EmittedTakes, EmittedTold, Met, MetTakes, PassesNoneOver, Rule, StageTurns, TakesAll, Told, due_comes, due_left, emitted_then, one_emitted, rule_meets, stage_step, stop_answer, HintBy, calls, held_one, hint_unless_end};
@@ -213,13 +213,10 @@ pub fn next_stage<I: FallibleIterator, P, G: Stage<P, I::Item, I::Error>>(
 ) -> Result<Option<G::Kept>, I::Error>
 where
     requires can_next { I.contract.can_next it.old }
-    requires takes { TakesAll I.contract (rule_meets G.rule)
-        G.rule.takes it.old stage.old.0 }
-    requires makes { PassesNoneOver (rule_meets G.rule)
-        stage.old.0 }
-    ensures { stage_step G.rule.comes
-        (rule_meets G.rule) I.contract.steps
-        (it.old, stage.old) result (it.new, stage.new) }
+    requires takes { TakesAll I.contract (rule_meets G.rule) G.rule.takes it.old stage.old.0 }
+    requires makes { PassesNoneOver (rule_meets G.rule) stage.old.0 }
+    ensures { stage_step G.rule.comes (rule_meets G.rule) I.contract.steps (it.old, stage.old)
+        result (it.new, stage.new) }
 {
     match stage.1.take() {
         Some(due) => {
@@ -246,11 +243,9 @@ pub fn next_until<I: FallibleIterator, P, G: Stage<P, I::Item, I::Error>>(
 where
     requires can_next { I.contract.can_next it.old }
     requires finite { I.contract.is_finite it.old }
-    requires takes { TakesAll I.contract (rule_meets G.rule)
-        G.rule.takes it.old stage.old.0 }
-    ensures { stage_step G.rule.comes
-        (rule_meets G.rule) I.contract.steps
-        (it.old, stage.old) result (it.new, stage.new) }
+    requires takes { TakesAll I.contract (rule_meets G.rule) G.rule.takes it.old stage.old.0 }
+    ensures { stage_step G.rule.comes (rule_meets G.rule) I.contract.steps (it.old, stage.old)
+        result (it.new, stage.new) }
 {
     match stage.1.take() {
         Some(due) => {
@@ -276,11 +271,9 @@ pub fn drawn_until<I: FallibleIterator, P, G: Stage<P, I::Item, I::Error>>(
 where
     requires can_next { I.contract.can_next it.old }
     requires finite { I.contract.is_finite it.old }
-    requires takes { TakesAll I.contract (rule_meets G.rule)
-        G.rule.takes it.old held.old }
-    ensures { DrawsUpTo G.rule.comes
-        (rule_meets G.rule) I.contract.steps
-        it.old held.old result.0 it.new (held.new, result.1) }
+    requires takes { TakesAll I.contract (rule_meets G.rule) G.rule.takes it.old held.old }
+    ensures { DrawsUpTo G.rule.comes (rule_meets G.rule) I.contract.steps it.old held.old result.0
+        it.new (held.new, result.1) }
 {
     let mut left = it.number();
     loop {
@@ -350,13 +343,10 @@ pub fn drive_stage<
 where
     requires can_next { I.contract.can_next it.old }
     requires finite { I.contract.is_finite it.old }
-    requires takes { TakesAll I.contract (rule_meets G.rule)
-        G.rule.takes it.old stage.old.0 }
-    requires callable { CallableDriving (stage_step G.rule.comes
-        (rule_meets G.rule) I.contract.steps)
-        (K.turns turn.now) (K.can_turn turn.now) (it.old, stage.old) state.old }
-    ensures { Driven (stage_step G.rule.comes
-        (rule_meets G.rule) I.contract.steps)
+    requires takes { TakesAll I.contract (rule_meets G.rule) G.rule.takes it.old stage.old.0 }
+    requires callable { CallableDriving (stage_step G.rule.comes (rule_meets G.rule)
+        I.contract.steps) (K.turns turn.now) (K.can_turn turn.now) (it.old, stage.old) state.old }
+    ensures { Driven (stage_step G.rule.comes (rule_meets G.rule) I.contract.steps)
         (K.turns turn.now) (it.old, stage.old) state.old result (it.new, stage.new) state.new }
 {
     match tell_due(stage.1.take(), adapter, state, turn) {
@@ -391,15 +381,15 @@ fn drive_undue<
 where
     requires can_next { I.contract.can_next it.old }
     requires finite { I.contract.is_finite it.old }
-    requires takes { TakesAll I.contract (rule_meets G.rule)
-        G.rule.takes it.old held.old }
+    requires takes { TakesAll I.contract (rule_meets G.rule) G.rule.takes it.old held.old }
     requires callable { CallableDriving (stage_step G.rule.comes
         (rule_meets G.rule) I.contract.steps)
         (K.turns turn.now) (K.can_turn turn.now) (it.old, (held.old, None)) state.old }
-    ensures { Driven (stage_step G.rule.comes
-        (rule_meets G.rule) I.contract.steps)
-        (K.turns turn.now) (it.old, (held.old, None)) state.old result.0
-        (it.new, (held.new, result.1)) state.new }
+    ensures { Driven (stage_step G.rule.comes (rule_meets G.rule) I.contract.steps)
+        (K.turns turn.now) (it.old, (held.old, None)) state.old result.0 (
+          it.new,
+          (held.new, result.1),
+        ) state.new }
 {
     match drive_items(it, held, adapter, state, turn) {
         Ok(Some(told)) => told,
@@ -427,17 +417,12 @@ fn drive_items<
 where
     requires can_next { I.contract.can_next it.old }
     requires finite { I.contract.is_finite it.old }
-    requires callable { CallableDriving I.contract.steps
-        (StageTurns G.rule.comes (rule_meets G.rule)
-        (K.turns turn.now))
-        (λ b x. MetTakes G.rule.comes
-        (rule_meets G.rule) (K.turns turn.now)
-        G.rule.takes (K.can_turn turn.now) b (Ok (Some x)))
-        it.old (state.old, held.old) }
-    ensures { Driven I.contract.steps
-        (StageTurns G.rule.comes (rule_meets G.rule)
-        (K.turns turn.now))
-        it.old (state.old, held.old) result it.new (state.new, held.new) }
+    requires callable { CallableDriving I.contract.steps (StageTurns G.rule.comes
+        (rule_meets G.rule) (K.turns turn.now)) (λ b x. MetTakes G.rule.comes (rule_meets G.rule)
+        (K.turns turn.now) G.rule.takes (K.can_turn turn.now) b (Ok (Some x))) it.old
+        (state.old, held.old) }
+    ensures { Driven I.contract.steps (StageTurns G.rule.comes (rule_meets G.rule)
+        (K.turns turn.now)) it.old (state.old, held.old) result it.new (state.new, held.new) }
 {
     let mut both = Beside { c: state, p: held };
     it.drive(&mut both, &StageTurn { adapter, turn })
@@ -451,12 +436,10 @@ fn tell_stop<P, X, E, G: Stage<P, X, E>, C, R, K: Turn<C, G::Kept, R>>(
     state: &mut C,
     turn: &K,
 ) -> AnswerAndDue<R, G::Due, E>
-    requires { MetTakes G.rule.comes
-        (rule_meets G.rule) (K.turns turn.now)
-        G.rule.takes (K.can_turn turn.now) (state.old, held.old) (stop_answer stop) }
-    ensures { Met G.rule.comes
-        (rule_meets G.rule) (K.turns turn.now)
-        (state.old, held.old) (stop_answer stop) (Break result) (state.new, held.new) }
+    requires { MetTakes G.rule.comes (rule_meets G.rule) (K.turns turn.now) G.rule.takes
+        (K.can_turn turn.now) (state.old, held.old) (stop_answer stop) }
+    ensures { Met G.rule.comes (rule_meets G.rule) (K.turns turn.now) (state.old, held.old)
+        (stop_answer stop) (Break result) (state.new, held.new) }
 {
     match tell_emitted(adapter.on_stop(held, stop), adapter, state, turn) {
         ControlFlow::Break(told) => told,

@@ -1,6 +1,6 @@
 //! The adapter that ends after the first item that a predicate rejects.
 ghost use Rattle.std.specs.Prelude.{Result, Option, None, ◌≡◌};
-ghost use Rattle.fallible_iterator.specs.Closures.{call_by_reference, takes_by_reference};
+ghost use Rattle.fallible_iterator.specs.Closures.{call_by_reference};
 ghost use Rattle.fallible_iterator.specs.Contract.{parts_as};
 ghost use Rattle.fallible_iterator.specs.Laws.Contract.{lawful_parts};
 ghost use Rattle.fallible_itertools_adapters.specs.Laws.TakeWhileInclusive.{is_stage_inclusive, lawful_inclusive};
@@ -81,8 +81,7 @@ impl<X: Drop, E, P: FnMut(&X) -> Result<bool, E>> Stage<((), P), X, E> for Inclu
     ghost rule = { inclusive_rule P.FnMut };
 
     #[inline(always)]
-    fn on_item(&self, p: &mut ((), P), item: X) -> Emitted<X, (), E>
-    {
+    fn on_item(&self, p: &mut ((), P), item: X) -> Emitted<X, (), E> {
         match (p.1)(&item) {
             Ok(true) => one(Ok(Some(item))),
             Ok(false) => one_then(Ok(Some(item)), ()),

@@ -12,7 +12,6 @@ use Rattle.std.proofs.lemmas.Bool.{ltb-true, ltb-false}
 use Rattle.std.proofs.lemmas.Grind.{div_ceil_times}
 use Rattle.fallible_iterator.specs.Contract.{Contract, Lawful}
 use Rattle.fallible_iterator.specs.Hints.{fitting_sum}
-use Rattle.fallible_iterator.specs.Sound.{HintsHold}
 use Rattle.fallible_iterator.specs.Laws.Hints.Joining.{if_some_fitting_sum_at_least_both}
 use Rattle.fallible_itertools_adapters.specs.Chunks.{Grown, Put, Puts, batch_at, batch_by, chunks_plan, chunks_stops, held_without_item, puts, vec_count, batch_held, chunks_contract, KeyedPut, chunk_by_contract, chunk_by_plan, chunk_by_stops, group_at, group_by, group_kept, puts_by_key, takes_key, chunk_by_rule, chunks_rule}
 use Rattle.fallible_itertools_adapters.specs.Staging.{Emitted, IsTransition, Transition, before_stop, held_one, plan_meets, stop_comes, IsStage}

@@ -5,7 +5,6 @@ use Rattle.std.specs.Fn.{Mut}
 use Rattle.std.proofs.Common.{arith, refl}
 use Rattle.fallible_iterator.specs.Closures.{call_by_reference, takes_by_reference}
 use Rattle.fallible_iterator.specs.Contract.{Contract, Lawful}
-use Rattle.fallible_iterator.specs.Sound.{HintsHold}
 use Rattle.fallible_itertools_adapters.specs.Coalesce.{OneOrBoth, are_equal, coalesce_call, coalesce_contract, coalesce_plan, coalesce_rule, coalesce_takes, coalesced_by, count_plan, count_stops, counted_by, dedup_by_contract, dedup_by_key_contract, dedup_by_key_rule, dedup_by_plan, dedup_by_rule, dedup_by_with_count_contract, dedup_by_with_count_rule, dedup_contract, dedup_key_plan, dedup_key_stops, dedup_plan, dedup_rule, dedup_stops, dedup_with_count_contract, dedup_with_count_rule, keyed_by, keyed_item, same_by, same_call, same_takes, unless_same, unless_same_key}
 use Rattle.fallible_itertools_adapters.specs.Staging.{held_one, calls_nothing, plan_meets, IsStage, stop_comes, calls_function, buffering, held_hint}
 use Rattle.fallible_itertools_adapters.specs.Laws.Staging.{Always, ItemBuffers, StopWeighs, before_stop_weighs, closure_stays, is_stage_buffering, lawful_bounded, lawful_rule, one_held_hold, HintHolds}

@@ -5,7 +5,6 @@ use Rattle.std.proofs.Common.{refl, arith}
 use Rattle.fallible_iterator.specs.Closures.{IsCallable}
 use Rattle.fallible_iterator.specs.Contract.{Contract, Lawful}
 use Rattle.fallible_iterator.specs.Hints.{fitting_sum, upper_alone}
-use Rattle.fallible_iterator.specs.Sound.{HintsHold}
 use Rattle.fallible_iterator.specs.Laws.Closures.{is_callable_after}
 use Rattle.fallible_iterator.specs.Laws.Contract.{lawful_with_sound}
 use Rattle.fallible_iterator.specs.Laws.Hints.Joining.{if_some_fitting_sum_at_least_both}
