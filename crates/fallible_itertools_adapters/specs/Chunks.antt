@@ -12,7 +12,7 @@ use Rattle.fallible_iterator.specs.Contract.{Contract, Inverse}
 use Rattle.fallible_iterator.specs.Hints.{fitting_sum}
 pub use Rattle.fallible_iterator.specs.Making.{IsRefusal}
 use Rattle.fallible_iterator.specs.Traces.{Answered, item}
-use Rattle.fallible_itertools_adapters.specs.Staging.{before_stop, held_one, hint_unless_end, held_sound, HintPlan, Transition, Plan, calls, plan_contract, plan_meets, as_function, plan_does, staged, StagedTrace, one_emitted, stop_comes, held_hint_plan, held_hint, bounded, closure_contract}
+use Rattle.fallible_itertools_adapters.specs.Staging.{before_stop, buffering, held_one, Rule, rule_contract, Transition, Plan, calls, rule_meets, as_function, plan_does, staged, StagedTrace, one_emitted, stop_comes, bounded, closure_rule, held_hint}
 use Rattle.fallible_itertools_adapters.specs.declared.chunks.ChunkBy.{ChunkBy}
 use Rattle.fallible_itertools_adapters.specs.declared.chunks.Chunks.{Chunks}
 
@@ -101,9 +101,6 @@ batch_held h = held_one h.1
 abbrev pub batches_hint : {V : Type 0} → ℕ × Option V → ℕ × Option ℕ → ℕ × Option ℕ
 batches_hint h k = (div_ceil k.0 (max h.0 1), fitting_sum k.1 (Some (held_one h.1)))
 
-abbrev pub chunks_hint_plan : {A E : Type 0} → ℕ × Option (Vec A Global) → Option (Option E) → HintPlan
-chunks_hint_plan h due = hint_unless_end (calls tt (batches_hint h)) due
-
 -- ---- its contract and its trace
 
 module _ {A E : Type 0} (from : AllocError → E → Type 0) where
@@ -111,13 +108,17 @@ module _ {A E : Type 0} (from : AllocError → E → Type 0) where
   abbrev pub puts : Unit {0} → Option (Vec A Global) × A → Put (Vec A Global) E → Unit {0} → Type 0
   puts u q v w = Puts from q.0 q.1 v
 
+  -- its rule
+  abbrev pub chunks_rule : Rule ((ℕ × Option (Vec A Global)) × Unit {0}) A (Vec A Global) (Option E) E
+  chunks_rule = buffering puts (chunks_plan vec_count) chunks_stops batch_held batches_hint
+
   -- `Chunks`: the items in batches, each where its last item stands or a stop. A failed allocation is a stop. The parts are the source, beside n the batch that is held, and the stop that is due.
   abbrev pub ChunksTrace : {S : Type 0} → (S → List (Answered A E) → S → Type 0) → S × (((ℕ × Option (Vec A Global)) × Unit {0}) × Option (Option E)) → List (Answered (Vec A Global) E) → S × (((ℕ × Option (Vec A Global)) × Unit {0}) × Option (Option E)) → Type 0
-  ChunksTrace traces p trace q = StagedTrace traces stop_comes (plan_meets puts (chunks_plan vec_count) chunks_stops) p trace q
+  ChunksTrace traces p trace q = StagedTrace traces stop_comes (rule_meets chunks_rule) p trace q
 
   -- `Chunks`' contract. It requires no bound of the source: one draw leaves out fewer items than a batch has.
   abbrev pub chunks_contract : {S : Type 0} → Contract S A E → Contract (S × (((ℕ × Option (Vec A Global)) × Unit {0}) × Option (Option E))) (Vec A Global) E
-  chunks_contract m = record (plan_contract m stop_comes puts (chunks_plan vec_count) chunks_stops 1 batch_held chunks_hint_plan (held_sound m batches_hint)) { traces = ChunksTrace m.traces }
+  chunks_contract m = record (rule_contract m chunks_rule) { traces = ChunksTrace m.traces }
 
 -- ---- what it lists
 
@@ -208,13 +209,17 @@ module _ {F A K E : Type 0} (from : AllocError → E → Type 0) (eq : K → K �
   puts_by_key f q (Ok (k, v)) h = call_by_reference g f q.1 (Ok k) h × Puts from (items_of_key eq q.0 k) q.1 v
   puts_by_key f q (Err e) h = call_by_reference g f q.1 (Err e) h
 
+  -- its rule
+  abbrev pub chunk_by_rule : Rule (Option (Group K A) × F) A (Group K A) (Option E) E
+  chunk_by_rule = closure_rule (takes_key g) (chunk_by_plan eq) (buffering puts_by_key (chunk_by_plan eq) chunk_by_stops held_one (λ held. held_hint (held_one held)))
+
   -- `ChunkBy`: the items in groups, each where the next key differs or a stop stands. The closure's failure and a failed allocation are stops. The parts are the source, the group that is held beside the closure, and the stop that is due.
   abbrev pub ChunkByTrace : {S : Type 0} → (S → List (Answered A E) → S → Type 0) → S × ((Option (Group K A) × F) × Option (Option E)) → List (Answered (Group K A) E) → S × ((Option (Group K A) × F) × Option (Option E)) → Type 0
-  ChunkByTrace traces p trace q = StagedTrace traces stop_comes (plan_meets puts_by_key (chunk_by_plan eq) chunk_by_stops) p trace q
+  ChunkByTrace traces p trace q = StagedTrace traces stop_comes (rule_meets chunk_by_rule) p trace q
 
   -- `ChunkBy`'s contract. Its condition: one of the source, a bound of it, and that the closure may be called on what comes.
   abbrev pub chunk_by_contract : {S : Type 0} → Contract S A E → Contract (S × ((Option (Group K A) × F) × Option (Option E))) (Group K A) E
-  chunk_by_contract m = record (closure_contract (bounded m) stop_comes puts_by_key (takes_key g) (chunk_by_plan eq) chunk_by_stops 1 held_one (held_hint_plan held_one) (held_sound m (λ held. held_hint (held_one held)))) { traces = ChunkByTrace m.traces }
+  chunk_by_contract m = record (rule_contract (bounded m) chunk_by_rule) { traces = ChunkByTrace m.traces }
 
 -- ---- what it lists
 

@@ -8,7 +8,7 @@ use Rattle.fallible_iterator.specs.Contract.{Contract, Inverse}
 use Rattle.fallible_iterator.specs.Folds.{call_with, takes_with}
 use Rattle.fallible_iterator.specs.Picking.{call_at_two, takes_at_two}
 use Rattle.fallible_iterator.specs.Traces.{Answered, failure, item}
-use Rattle.fallible_itertools_adapters.specs.Staging.{before_stop, held_hint_plan, held_one, held_hint, held_sound, Transition, Plan, bounded, calls_nothing, makes, plan_contract, plan_meets, as_function, plan_does, staged, StagedTrace, one_emitted, stop_comes, calls, closure_contract, calls_function}
+use Rattle.fallible_itertools_adapters.specs.Staging.{Rule, before_stop, closure_rule, rule_contract, Transition, Plan, bounded, calls_nothing, makes, rule_meets, as_function, plan_does, staged, StagedTrace, one_emitted, stop_comes, calls, calls_function, buffering, held_hint, held_one}
 use Rattle.fallible_itertools_adapters.specs.declared.coalesce.Coalesce.{Coalesce}
 use Rattle.fallible_itertools_adapters.specs.declared.coalesce.Dedup.{Dedup}
 use Rattle.fallible_itertools_adapters.specs.declared.coalesce.DedupBy.{DedupBy}
@@ -33,13 +33,17 @@ module _ {A : Type 0} (eq : A → A → Bool) where
   dedup_plan None x = makes (None, Some x)
   dedup_plan (Some y) x = makes (unless_same y x (eq y x))
 
+  -- its rule
+  abbrev pub dedup_rule : {E : Type 0} → Rule (Option A × Unit {0}) A A (Option E) E
+  dedup_rule = buffering calls_nothing dedup_plan dedup_stops held_one (λ held. held_hint (held_one held))
+
   -- `Dedup`: the first of adjacent equal items, each where the next one that differs stands or a stop.
   abbrev pub DedupTrace : {S E : Type 0} → (S → List (Answered A E) → S → Type 0) → S × ((Option A × Unit {0}) × Option (Option E)) → List (Answered A E) → S × ((Option A × Unit {0}) × Option (Option E)) → Type 0
-  DedupTrace traces p trace q = StagedTrace traces stop_comes (plan_meets calls_nothing dedup_plan dedup_stops) p trace q
+  DedupTrace traces p trace q = StagedTrace traces stop_comes (rule_meets dedup_rule) p trace q
 
   -- `Dedup`'s contract
   abbrev pub dedup_contract : {S E : Type 0} → Contract S A E → Contract (S × ((Option A × Unit {0}) × Option (Option E))) A E
-  dedup_contract m = record (plan_contract (bounded m) stop_comes calls_nothing dedup_plan dedup_stops 1 held_one (held_hint_plan held_one) (held_sound m (λ held. held_hint (held_one held)))) { traces = DedupTrace m.traces }
+  dedup_contract m = record (rule_contract (bounded m) dedup_rule) { traces = DedupTrace m.traces }
 
   -- the first of adjacent equal items; a failure parts them
   unfoldable pub deduped : {E : Type 0} → List (Result A E) → List (Result A E)
@@ -78,13 +82,17 @@ module _ {A F E : Type 0} (g : Mut F (A × (A × Unit {0})) (OneOrBoth A E)) whe
   abbrev pub coalesce_takes : F → A × A → Type 0
   coalesce_takes f both = takes_with g f both.0 both.1
 
+  -- its rule
+  abbrev pub coalesce_rule : Rule (Option A × F) A A (Option E) E
+  coalesce_rule = closure_rule coalesce_takes coalesce_plan (buffering coalesce_call coalesce_plan dedup_stops held_one (λ held. held_hint (held_one held)))
+
   -- `Coalesce`: adjacent items put together, each where the next one that isn't put to it stands or a stop; the closure's failure is a stop.
   abbrev pub CoalesceTrace : {S : Type 0} → (S → List (Answered A E) → S → Type 0) → S × ((Option A × F) × Option (Option E)) → List (Answered A E) → S × ((Option A × F) × Option (Option E)) → Type 0
-  CoalesceTrace traces p trace q = StagedTrace traces stop_comes (plan_meets coalesce_call coalesce_plan dedup_stops) p trace q
+  CoalesceTrace traces p trace q = StagedTrace traces stop_comes (rule_meets coalesce_rule) p trace q
 
   -- `Coalesce`'s contract
   abbrev pub coalesce_contract : {S : Type 0} → Contract S A E → Contract (S × ((Option A × F) × Option (Option E))) A E
-  coalesce_contract m = record (closure_contract (bounded m) stop_comes coalesce_call coalesce_takes coalesce_plan dedup_stops 1 held_one (held_hint_plan held_one) (held_sound m (λ held. held_hint (held_one held)))) { traces = CoalesceTrace m.traces }
+  coalesce_contract m = record (rule_contract (bounded m) coalesce_rule) { traces = CoalesceTrace m.traces }
 
 -- The closure returns two items that it keeps apart as they are, and what it makes of the second one and the next is still apart from the first.
 pub record KeepsApart {A E : Type 0} (h : A → A → OneOrBoth A E) : Type 0 where
@@ -123,13 +131,17 @@ module _ {A F E : Type 0} (g : Mut F (Bor A × (Bor A × Unit {0})) (Result Bool
   abbrev pub same_takes : F → A × A → Type 0
   same_takes f both = takes_at_two g f both.0 both.1
 
+  -- its rule
+  abbrev pub dedup_by_rule : Rule (Option A × F) A A (Option E) E
+  dedup_by_rule = closure_rule same_takes dedup_by_plan (buffering same_call dedup_by_plan dedup_stops held_one (λ held. held_hint (held_one held)))
+
   -- `DedupBy`: the first of adjacent items that are the same, each where the next one that differs stands or a stop; the closure's failure is a stop.
   abbrev pub DedupByTrace : {S : Type 0} → (S → List (Answered A E) → S → Type 0) → S × ((Option A × F) × Option (Option E)) → List (Answered A E) → S × ((Option A × F) × Option (Option E)) → Type 0
-  DedupByTrace traces p trace q = StagedTrace traces stop_comes (plan_meets same_call dedup_by_plan dedup_stops) p trace q
+  DedupByTrace traces p trace q = StagedTrace traces stop_comes (rule_meets dedup_by_rule) p trace q
 
   -- `DedupBy`'s contract
   abbrev pub dedup_by_contract : {S : Type 0} → Contract S A E → Contract (S × ((Option A × F) × Option (Option E))) A E
-  dedup_by_contract m = record (closure_contract (bounded m) stop_comes same_call same_takes dedup_by_plan dedup_stops 1 held_one (held_hint_plan held_one) (held_sound m (λ held. held_hint (held_one held)))) { traces = DedupByTrace m.traces }
+  dedup_by_contract m = record (rule_contract (bounded m) dedup_by_rule) { traces = DedupByTrace m.traces }
 
 -- the source, what is held beside the closure, and the stop that is due
 abbrev pub dedup_by_parts : {I A E F : Type 0} → DedupBy I F A E → I × ((Option A × F) × Option (Option E))
@@ -171,13 +183,17 @@ module _ {A K : Type 0} (eq : K → K → Bool) where
   dedup_key_plan held x = calls x (keyed_by held x)
 
   module _ {F E : Type 0} (g : Mut F (Bor A × Unit {0}) (Result K E)) where
+    -- its rule
+    abbrev pub dedup_by_key_rule : Rule (Option (K × A) × F) A A (Option E) E
+    dedup_by_key_rule = closure_rule (takes_by_reference g) dedup_key_plan (buffering (call_by_reference g) dedup_key_plan dedup_key_stops held_one (λ held. held_hint (held_one held)))
+
     -- `DedupByKey`: the first of adjacent items with equal keys, each where the next one that differs stands or a stop; the closure's failure is a stop.
     abbrev pub DedupByKeyTrace : {S : Type 0} → (S → List (Answered A E) → S → Type 0) → S × ((Option (K × A) × F) × Option (Option E)) → List (Answered A E) → S × ((Option (K × A) × F) × Option (Option E)) → Type 0
-    DedupByKeyTrace traces p trace q = StagedTrace traces stop_comes (plan_meets (call_by_reference g) dedup_key_plan dedup_key_stops) p trace q
+    DedupByKeyTrace traces p trace q = StagedTrace traces stop_comes (rule_meets dedup_by_key_rule) p trace q
 
     -- `DedupByKey`'s contract
     abbrev pub dedup_by_key_contract : {S : Type 0} → Contract S A E → Contract (S × ((Option (K × A) × F) × Option (Option E))) A E
-    dedup_by_key_contract m = record (closure_contract (bounded m) stop_comes (call_by_reference g) (takes_by_reference g) dedup_key_plan dedup_key_stops 1 held_one (held_hint_plan held_one) (held_sound m (λ held. held_hint (held_one held)))) { traces = DedupByKeyTrace m.traces }
+    dedup_by_key_contract m = record (rule_contract (bounded m) dedup_by_key_rule) { traces = DedupByKeyTrace m.traces }
 
   -- The first of adjacent items with equal keys, which h makes; where h fails, its failure in the item's place. Before a failure comes the item that is held.
   unfoldable pub deduped_by_key : {E : Type 0} → (A → Result K E) → List (Result A E) → List (Result A E)
@@ -235,13 +251,17 @@ module _ {A : Type 0} (eq : A → A → Bool) where
   abbrev pub are_equal : {E : Type 0} → A × A → Result Bool E
   are_equal both = Ok (eq both.0 both.1)
 
+  -- its rule
+  abbrev pub dedup_with_count_rule : {E : Type 0} → Rule (Option (ℕ × A) × Unit {0}) A (ℕ × A) (Option E) E
+  dedup_with_count_rule = buffering (calls_function are_equal) count_plan count_stops held_one (λ held. held_hint (held_one held))
+
   -- `DedupWithCount`: the first of adjacent equal items beside their number, each where the next one that differs stands or a stop.
   abbrev pub DedupWithCountTrace : {S E : Type 0} → (S → List (Answered A E) → S → Type 0) → S × ((Option (ℕ × A) × Unit {0}) × Option (Option E)) → List (Answered (ℕ × A) E) → S × ((Option (ℕ × A) × Unit {0}) × Option (Option E)) → Type 0
-  DedupWithCountTrace traces p trace q = StagedTrace traces stop_comes (plan_meets (calls_function are_equal) count_plan count_stops) p trace q
+  DedupWithCountTrace traces p trace q = StagedTrace traces stop_comes (rule_meets dedup_with_count_rule) p trace q
 
   -- `DedupWithCount`'s contract
   abbrev pub dedup_with_count_contract : {S E : Type 0} → Contract S A E → Contract (S × ((Option (ℕ × A) × Unit {0}) × Option (Option E))) (ℕ × A) E
-  dedup_with_count_contract m = record (plan_contract (bounded m) stop_comes (calls_function are_equal) count_plan count_stops 1 held_one (held_hint_plan held_one) (held_sound m (λ held. held_hint (held_one held)))) { traces = DedupWithCountTrace m.traces }
+  dedup_with_count_contract m = record (rule_contract (bounded m) dedup_with_count_rule) { traces = DedupWithCountTrace m.traces }
 
 -- the source, the item that is held with its number, and the stop that is due
 abbrev pub dedup_with_count_parts : {I A E : Type 0} → DedupWithCount I A E → I × ((Option (ℕ × A) × Unit {0}) × Option (Option E))
@@ -254,13 +274,17 @@ dedup_with_count_made = record { make = λ p. record { it = p.0; stage = p.1 }; 
 -- ---- `DedupByWithCount`, which yields the first of adjacent items that a closure finds the same beside their number
 
 module _ {A F E : Type 0} (g : Mut F (Bor A × (Bor A × Unit {0})) (Result Bool E)) where
+  -- its rule
+  abbrev pub dedup_by_with_count_rule : Rule (Option (ℕ × A) × F) A (ℕ × A) (Option E) E
+  dedup_by_with_count_rule = closure_rule (same_takes g) count_plan (buffering (same_call g) count_plan count_stops held_one (λ held. held_hint (held_one held)))
+
   -- `DedupByWithCount`: the first of adjacent items that are the same beside their number, each where the next one that differs stands or a stop; the closure's failure is a stop.
   abbrev pub DedupByWithCountTrace : {S : Type 0} → (S → List (Answered A E) → S → Type 0) → S × ((Option (ℕ × A) × F) × Option (Option E)) → List (Answered (ℕ × A) E) → S × ((Option (ℕ × A) × F) × Option (Option E)) → Type 0
-  DedupByWithCountTrace traces p trace q = StagedTrace traces stop_comes (plan_meets (same_call g) count_plan count_stops) p trace q
+  DedupByWithCountTrace traces p trace q = StagedTrace traces stop_comes (rule_meets dedup_by_with_count_rule) p trace q
 
   -- `DedupByWithCount`'s contract: the closure may be called on references to what is held and each item that may come.
   abbrev pub dedup_by_with_count_contract : {S : Type 0} → Contract S A E → Contract (S × ((Option (ℕ × A) × F) × Option (Option E))) (ℕ × A) E
-  dedup_by_with_count_contract m = record (closure_contract (bounded m) stop_comes (same_call g) (same_takes g) count_plan count_stops 1 held_one (held_hint_plan held_one) (held_sound m (λ held. held_hint (held_one held)))) { traces = DedupByWithCountTrace m.traces }
+  dedup_by_with_count_contract m = record (rule_contract (bounded m) dedup_by_with_count_rule) { traces = DedupByWithCountTrace m.traces }
 
 -- the source, what is held beside the closure, and the stop that is due
 abbrev pub dedup_by_with_count_parts : {I A E F : Type 0} → DedupByWithCount I F A E → I × ((Option (ℕ × A) × F) × Option (Option E))

@@ -9,7 +9,7 @@ use Rattle.fallible_iterator.specs.Refusals.{RefusedAs}
 use Rattle.fallible_iterator.specs.Sound.{as_made}
 use Rattle.fallible_iterator.specs.Sources.FromFn.{call_of_none}
 use Rattle.fallible_iterator.specs.Traces.{Answered, item}
-use Rattle.fallible_itertools_adapters.specs.Staging.{held_one, HintPlan, Transition, Plan, calls, makes, none_held, passes, plan_contract, plan_meets, plan_does, staged, StagedTrace, item_comes, emitted_then, one_emitted, closure_contract}
+use Rattle.fallible_itertools_adapters.specs.Staging.{held_one, HintPlan, Transition, Plan, calls, makes, none_held, passes, rule_meets, plan_rule, rule_contract, Rule, plan_does, staged, StagedTrace, item_comes, emitted_then, one_emitted, closure_rule}
 use Rattle.fallible_itertools_adapters.specs.declared.intersperse.Intersperse.{Intersperse}
 use Rattle.fallible_itertools_adapters.specs.declared.intersperse.IntersperseWith.{IntersperseWith}
 
@@ -54,6 +54,10 @@ intersperse_hint came due h = (min (interspersed_items came due h.0) (2 ^ 64 - 1
 abbrev pub intersperse_hint_plan : {A : Type 0} → Bool → Option A → HintPlan
 intersperse_hint_plan came due = calls tt (intersperse_hint came due)
 
+-- the rule: an item of the source is two to come
+abbrev pub intersperse_rule : {F A E : Type 0} → (F → Unit {0} → Result A E → F → Type 0) → Rule (Bool × F) A A A E
+intersperse_rule call = plan_rule item_comes call intersperse_plan passes 2 none_held intersperse_hint_plan (λ S m. as_made (λ p. p.0) m.hints m.sound (λ p. intersperse_hint p.1.0.0 p.1.1))
+
 -- ---- `Intersperse`
 
 module _ {A E : Type 0} (is_clone : A → A → Type 0) (is_infallible : A → Type 0) (from : AllocError → E → Type 0) where
@@ -64,11 +68,11 @@ module _ {A E : Type 0} (is_clone : A → A → Type 0) (is_infallible : A → T
 
   -- `Intersperse`: the item that is due, and then the source's trace with a clone of the separator before each item but the first; failures and ends between two items part nothing. The parts are the source, whether an item came beside the separator, and the item that is due.
   abbrev pub IntersperseTrace : {S : Type 0} → (S → List (Answered A E) → S → Type 0) → S × ((Bool × A) × Option A) → List (Answered A E) → S × ((Bool × A) × Option A) → Type 0
-  IntersperseTrace traces p trace q = StagedTrace traces item_comes (plan_meets separator_cloned intersperse_plan passes) p trace q
+  IntersperseTrace traces p trace q = StagedTrace traces item_comes (rule_meets (intersperse_rule separator_cloned)) p trace q
 
   -- `Intersperse`'s contract: an item of the source is two to come.
   abbrev pub intersperse_contract : {S : Type 0} → Contract S A E → Contract (S × ((Bool × A) × Option A)) A E
-  intersperse_contract m = record (plan_contract m item_comes separator_cloned intersperse_plan passes 2 none_held intersperse_hint_plan (as_made (λ p. p.0) m.hints m.sound (λ p. intersperse_hint p.1.0.0 p.1.1))) { traces = IntersperseTrace m.traces }
+  intersperse_contract m = record (rule_contract m (intersperse_rule separator_cloned)) { traces = IntersperseTrace m.traces }
 
 -- the source
 abbrev pub intersperse_source : {I A E : Type 0} → Intersperse I A E → I
@@ -103,13 +107,17 @@ module _ {F A E : Type 0} (g : Mut F (Unit {0}) (Result A E)) where
   abbrev pub takes_none : F → Unit {0} → Type 0
   takes_none f u = g.pre f tt
 
+  -- its rule
+  abbrev pub intersperse_with_rule : Rule (Bool × F) A A A E
+  intersperse_with_rule = closure_rule takes_none intersperse_plan (intersperse_rule (call_of_none g))
+
   -- `IntersperseWith`: the item that is due, and then the source's trace with what one call of the closure returns before each item but the first; failures and ends between two items part nothing. The parts are the source, whether an item came beside the closure, and the item that is due.
   abbrev pub IntersperseWithTrace : {S : Type 0} → (S → List (Answered A E) → S → Type 0) → S × ((Bool × F) × Option A) → List (Answered A E) → S × ((Bool × F) × Option A) → Type 0
-  IntersperseWithTrace traces p trace q = StagedTrace traces item_comes (plan_meets (call_of_none g) intersperse_plan passes) p trace q
+  IntersperseWithTrace traces p trace q = StagedTrace traces item_comes (rule_meets intersperse_with_rule) p trace q
 
   -- `IntersperseWith`'s contract: an item of the source is two to come. The closure may be called wherever items that may come bring it.
   abbrev pub intersperse_with_contract : {S : Type 0} → Contract S A E → Contract (S × ((Bool × F) × Option A)) A E
-  intersperse_with_contract m = record (closure_contract m item_comes (call_of_none g) takes_none intersperse_plan passes 2 none_held intersperse_hint_plan (as_made (λ p. p.0) m.hints m.sound (λ p. intersperse_hint p.1.0.0 p.1.1))) { traces = IntersperseWithTrace m.traces }
+  intersperse_with_contract m = record (rule_contract m intersperse_with_rule) { traces = IntersperseWithTrace m.traces }
 
 -- the source
 abbrev pub intersperse_with_source : {I A E F : Type 0} → IntersperseWith I F A E → I

@@ -12,7 +12,7 @@ use Rattle.fallible_iterator.specs.Outcome.{Outcome}
 use Rattle.fallible_iterator.specs.Passing.{passes_all, leaving_out_contract}
 use Rattle.fallible_iterator.specs.Sound.{above_as_source}
 use Rattle.fallible_iterator.specs.Traces.{Answered, item}
-use Rattle.fallible_itertools_adapters.specs.Staging.{before_stop, held_one, hint_unless_end, held_sound, HintPlan, Transition, Plan, calls, calls_nothing, makes, plan_contract, plan_meets, as_function, plan_does, staged, StagedTrace, one_emitted, stop_comes}
+use Rattle.fallible_itertools_adapters.specs.Staging.{before_stop, buffering, held_one, Rule, rule_contract, Transition, Plan, calls_nothing, makes, rule_meets, as_function, plan_does, staged, StagedTrace, one_emitted, stop_comes}
 use Rattle.fallible_itertools_adapters.specs.declared.positions.Position.{Position}
 use Rattle.fallible_itertools_adapters.specs.declared.positions.Position.TheVariants.{First, Middle, Last, Only}
 use Rattle.fallible_itertools_adapters.specs.declared.positions.Positions.{Positions}
@@ -95,17 +95,17 @@ position_stops held stop = (before_stop (positioned_last held) stop, None)
 abbrev pub position_hint : {A : Type 0} → Option (Bool × A) → ℕ × Option ℕ → ℕ × Option ℕ
 position_hint held k = hint_sum k (held_one held, Some (held_one held))
 
--- it is none if an end is due
-abbrev pub position_hint_plan : {A E : Type 0} → Option (Bool × A) → Option (Option E) → HintPlan
-position_hint_plan held due = hint_unless_end (calls tt (position_hint held)) due
+-- its rule
+abbrev pub position_rule : {A E : Type 0} → Rule (Option (Bool × A) × Unit {0}) A (Position × A) (Option E) E
+position_rule = buffering calls_nothing position_plan position_stops held_one position_hint
 
 -- `WithPosition`: each item with its position, where the next item stands or a stop.
 abbrev pub WithPositionTrace : {S A E : Type 0} → (S → List (Answered A E) → S → Type 0) → S × ((Option (Bool × A) × Unit {0}) × Option (Option E)) → List (Answered (Position × A) E) → S × ((Option (Bool × A) × Unit {0}) × Option (Option E)) → Type 0
-WithPositionTrace traces p trace q = StagedTrace traces stop_comes (plan_meets calls_nothing position_plan position_stops) p trace q
+WithPositionTrace traces p trace q = StagedTrace traces stop_comes (rule_meets position_rule) p trace q
 
 -- `WithPosition`'s contract. It requires no bound of the source: one draw leaves out one item at most.
 abbrev pub with_position_contract : {S A E : Type 0} → Contract S A E → Contract (S × ((Option (Bool × A) × Unit {0}) × Option (Option E))) (Position × A) E
-with_position_contract m = record (plan_contract m stop_comes calls_nothing position_plan position_stops 1 held_one position_hint_plan (held_sound m position_hint)) { traces = WithPositionTrace m.traces }
+with_position_contract m = record (rule_contract m position_rule) { traces = WithPositionTrace m.traces }
 
 -- each item with its position among the items there; a failure parts them
 unfoldable pub positioned : {A E : Type 0} → List (Result A E) → List (Result (Position × A) E)

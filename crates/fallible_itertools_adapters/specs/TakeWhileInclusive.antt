@@ -5,7 +5,7 @@ use Rattle.std.specs.Borrow.{Bor}
 use Rattle.fallible_iterator.specs.Traces.{Answered, item, failure}
 use Rattle.fallible_iterator.specs.Contract.{Contract, Inverse}
 use Rattle.fallible_iterator.specs.Closures.{call_by_reference, takes_by_reference}
-use Rattle.fallible_itertools_adapters.specs.Staging.{HintPlan, Transition, Plan, calls, closure_contract, makes, none_held, passes, plan_meets, as_function, plan_does, staged, StagedTrace, ends_come, emitted_then, one_emitted}
+use Rattle.fallible_itertools_adapters.specs.Staging.{HintPlan, Transition, Plan, calls, closure_rule, makes, plan_rule, rule_contract, Rule, none_held, passes, rule_meets, as_function, plan_does, staged, StagedTrace, ends_come, emitted_then, one_emitted}
 use Rattle.fallible_itertools_adapters.specs.declared.take_while_inclusive.TakeWhileInclusive.{TakeWhileInclusive}
 use Rattle.std.proofs.Common.{refl}
 use Rattle.fallible_iterator.specs.Sound.{sound_once, as_made}
@@ -29,13 +29,17 @@ abbrev pub inclusive_hint_plan : Unit {0} → Option (Unit {0}) → HintPlan
 inclusive_hint_plan u None = calls tt hint_of_first
 inclusive_hint_plan u (Some over) = makes (0, Some 0)
 
+-- its rule
+abbrev pub inclusive_rule : {F A E : Type 0} → Mut F (Bor A × Unit {0}) (Result Bool E) → Rule (Unit {0} × F) A A (Unit {0}) E
+inclusive_rule g = closure_rule (takes_by_reference g) inclusive_plan (plan_rule ends_come (call_by_reference g) inclusive_plan passes 1 none_held inclusive_hint_plan (λ S m. sound_once (λ p. IsSome p.1.1) (as_made (λ p. p.0) m.hints m.sound (λ p. hint_of_first))))
+
 -- `TakeWhileInclusive`: the source's trace with the predicate called on each item, in which an item is replaced by the predicate's failure on it, up to and with the first rejected item, and then ends without draws. The parts are the source, the predicate, and whether ends are due.
 abbrev pub InclusiveTrace : {S F A E : Type 0} → Mut F (Bor A × Unit {0}) (Result Bool E) → (S → List (Answered A E) → S → Type 0) → S × ((Unit {0} × F) × Option (Unit {0})) → List (Answered A E) → S × ((Unit {0} × F) × Option (Unit {0})) → Type 0
-InclusiveTrace g traces p trace q = StagedTrace traces ends_come (plan_meets (call_by_reference g) inclusive_plan passes) p trace q
+InclusiveTrace g traces p trace q = StagedTrace traces ends_come (rule_meets (inclusive_rule g)) p trace q
 
 -- `TakeWhileInclusive`'s contract: the predicate may be called on each item that may come.
 abbrev pub inclusive_contract : {S F A E : Type 0} → Mut F (Bor A × Unit {0}) (Result Bool E) → Contract S A E → Contract (S × ((Unit {0} × F) × Option (Unit {0}))) A E
-inclusive_contract g m = record (closure_contract m ends_come (call_by_reference g) (takes_by_reference g) inclusive_plan passes 1 none_held inclusive_hint_plan (sound_once (λ p. IsSome p.1.1) (as_made (λ p. p.0) m.hints m.sound (λ p. hint_of_first)))) { traces = InclusiveTrace g m.traces }
+inclusive_contract g m = record (rule_contract m (inclusive_rule g)) { traces = InclusiveTrace g m.traces }
 
 -- the source
 abbrev pub inclusive_source : {I P : Type 0} → TakeWhileInclusive I P → I

@@ -1,17 +1,17 @@
 // The adapters that yield batches of items, and groups of adjacent items with equal keys.
-ghost use Rattle.std.specs.Prelude.{◌≡◌, ⊤, MatchResult, None, Option, Result, max, Ok};
+ghost use Rattle.std.specs.Prelude.{◌≡◌, MatchResult, None, Option, Result, max, Ok};
 ghost use Rattle.std.specs.Int.{div_ceil};
 ghost use Rattle.std.specs.declared.alloc.Global.{Global};
 ghost use Rattle.std.specs.declared.vec.Vec.{Vec};
 ghost use Rattle.fallible_iterator.specs.Contract.{parts_as};
 ghost use Rattle.fallible_iterator.specs.Laws.Contract.{lawful_parts};
-ghost use Rattle.fallible_itertools_adapters.specs.Chunks.{GrownTo, NoRoom, Put, Puts, SameHeld, batch_held, chunk_by_contract, chunk_by_made, chunk_by_parts, chunk_by_plan, chunk_by_stops, chunks_contract, chunks_made, chunks_parts, chunks_plan, chunks_stops, group_by, items_of_key, puts, puts_by_key, takes_key, vec_count};
-ghost use Rattle.fallible_itertools_adapters.specs.Staging.{DrawsUpTo, IsTransition, held_one, plan_item, plan_meets, plan_stop, plan_takes, stop_comes};
+ghost use Rattle.fallible_itertools_adapters.specs.Chunks.{GrownTo, NoRoom, Put, Puts, SameHeld, chunk_by_contract, chunk_by_made, chunk_by_parts, chunks_contract, chunks_made, chunks_parts, chunks_plan, chunks_stops, group_by, items_of_key, puts, vec_count, chunk_by_rule, chunks_rule};
+ghost use Rattle.fallible_itertools_adapters.specs.Staging.{DrawsUpTo, IsTransition, plan_meets, stop_comes};
 ghost use Rattle.fallible_itertools_adapters.specs.Laws.Chunks.{is_stage_chunk_by, is_stage_chunks, lawful_chunk_by, lawful_chunks};
 
 use crate::staging::{
-    AnswerAndDue, Emitted, Stage, Stop, drive_stage, emitted_of, let_go, next_until, one, put_due,
-    stop_answer, with_held,
+    AnswerAndDue, Emitted, Stage, Stop, drive_stage, emitted_of, hint_with_held, let_go,
+    next_until, one, put_due, stop_answer, with_held,
 };
 use fallible_iterator::extending::{alone, pushed};
 use fallible_iterator::{FallibleIterator, Turn};
@@ -122,25 +122,14 @@ impl<X: Drop, E: From<AllocError>> Stage<((usize, Option<Vec<X>>), ()), X, E> fo
 
     type Due = Stop<E>;
 
-    ghost comes = { λ _ stop. stop_comes stop };
-
-    ghost can_meet = { λ _ p x. ⊤ };
-
-    ghost items = { λ _ p x emitted q. plan_item (puts E.from_gives) (chunks_plan vec_count) chunks_stops p
-        x emitted q };
-
-    ghost stops = { λ _ p stop emitted q. plan_stop (puts E.from_gives) (chunks_plan vec_count)
-        chunks_stops p stop emitted q };
-
-    ghost most = { λ _. 1 };
-
-    ghost held = { λ _ p. batch_held p.0 };
+    ghost rule = { chunks_rule E.from_gives };
 
     #[inline(always)]
-    fn on_item(&self, p: &mut ((usize, Option<Vec<X>>), ()), item: X) -> Emitted<Vec<X>, Stop<E>, E>
-        ensures { plan_item (puts E.from_gives) (chunks_plan vec_count) chunks_stops p.old item result
-            p.new }
-    {
+    fn on_item(
+        &self,
+        p: &mut ((usize, Option<Vec<X>>), ()),
+        item: X,
+    ) -> Emitted<Vec<X>, Stop<E>, E> {
         match grown(self.alloc, p.0.0, &mut p.0.1, item) {
             Ok(count) => {
                 if count < p.0.0 {
@@ -162,8 +151,7 @@ impl<X: Drop, E: From<AllocError>> Stage<((usize, Option<Vec<X>>), ()), X, E> fo
         p: &mut ((usize, Option<Vec<X>>), ()),
         stop: Stop<E>,
     ) -> Emitted<Vec<X>, Stop<E>, E>
-        ensures { plan_stop (puts E.from_gives) (chunks_plan vec_count) chunks_stops p.old stop result
-            p.new }
+        ensures { (chunks_rule E.from_gives).stops p.old stop result p.new }
     {
         let_go(p.0.1.take(), stop)
     }
@@ -173,7 +161,7 @@ impl<X: Drop, E: From<AllocError>> Stage<((usize, Option<Vec<X>>), ()), X, E> fo
         (stop_answer(due), None)
     }
 
-    ghost is_stage = { λ _. is_stage_chunks E.from_gives };
+    ghost is_stage = { is_stage_chunks E.from_gives };
 }
 
 // Appends the item to the buffered batch, or to a new one with room for n, and returns how many items the batch has then.
@@ -257,10 +245,7 @@ where
     }
 
     fn size_hint(&self) -> (usize, Option<usize>) {
-        match self.stage.1 {
-            Some(None) => (0, Some(0)),
-            _ => with_held(self.it.size_hint(), self.stage.0.0.is_some()),
-        }
+        hint_with_held(&self.it, &self.stage.1, &self.stage.0.0)
     }
 
     fn drive<C, R, T: Turn<C, (K, Vec<I::Item>), R>>(
@@ -291,26 +276,14 @@ impl<X: Drop, K: PartialEq + Drop, E: From<AllocError>, F: FnMut(&X) -> Result<K
 
     type Due = Stop<E>;
 
-    ghost comes = { λ _ stop. stop_comes stop };
-
-    ghost can_meet = { λ _ p x. plan_takes (takes_key F.FnMut) (chunk_by_plan {E = E} K.eq) p x };
-
-    ghost items = { λ _ p x emitted q. plan_item (puts_by_key E.from_gives K.eq F.FnMut)
-        (chunk_by_plan K.eq) chunk_by_stops p x emitted q };
-
-    ghost stops = { λ _ p stop emitted q. plan_stop (puts_by_key E.from_gives K.eq F.FnMut)
-        (chunk_by_plan K.eq) chunk_by_stops p stop emitted q };
-
-    ghost most = { λ _. 1 };
-
-    ghost held = { λ _ p. held_one p.0 };
+    ghost rule = { chunk_by_rule E.from_gives K.eq F.FnMut };
 
     #[inline(always)]
-    fn on_item(&self, p: &mut (Option<(K, Vec<X>)>, F), item: X) -> Emitted<(K, Vec<X>), Stop<E>, E>
-        requires { plan_takes (takes_key F.FnMut) (chunk_by_plan {E = E} K.eq) p.old item }
-        ensures { plan_item (puts_by_key E.from_gives K.eq F.FnMut) (chunk_by_plan K.eq)
-            chunk_by_stops p.old item result p.new }
-    {
+    fn on_item(
+        &self,
+        p: &mut (Option<(K, Vec<X>)>, F),
+        item: X,
+    ) -> Emitted<(K, Vec<X>), Stop<E>, E> {
         match (p.1)(&item) {
             Ok(key) => grouped(self.alloc, &mut p.0, key, item),
             Err(e) => let_go(p.0.take(), Some(e)),
@@ -323,8 +296,7 @@ impl<X: Drop, K: PartialEq + Drop, E: From<AllocError>, F: FnMut(&X) -> Result<K
         p: &mut (Option<(K, Vec<X>)>, F),
         stop: Stop<E>,
     ) -> Emitted<(K, Vec<X>), Stop<E>, E>
-        ensures { plan_stop (puts_by_key E.from_gives K.eq F.FnMut) (chunk_by_plan K.eq)
-            chunk_by_stops p.old stop result p.new }
+        ensures { (chunk_by_rule E.from_gives K.eq F.FnMut).stops p.old stop result p.new }
     {
         let_go(p.0.take(), stop)
     }
@@ -334,7 +306,7 @@ impl<X: Drop, K: PartialEq + Drop, E: From<AllocError>, F: FnMut(&X) -> Result<K
         (stop_answer(due), None)
     }
 
-    ghost is_stage = { λ _. is_stage_chunk_by E.from_gives K.eq F.FnMut };
+    ghost is_stage = { is_stage_chunk_by E.from_gives K.eq F.FnMut };
 }
 
 // What becomes of an item of that key. A new group has room for as many items as the one that it follows, up to 1024.

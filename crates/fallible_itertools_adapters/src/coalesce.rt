@@ -1,15 +1,15 @@
 // The adapters that merge adjacent items, or yield the first of those that are the same.
-ghost use Rattle.std.specs.Prelude.{Option, Result, None, ◌≡◌, ⊤};
-ghost use Rattle.fallible_iterator.specs.Closures.{call_by_reference, takes_by_reference};
+ghost use Rattle.std.specs.Prelude.{Option, Result, None, ◌≡◌};
+ghost use Rattle.fallible_iterator.specs.Closures.{call_by_reference};
 ghost use Rattle.fallible_iterator.specs.Contract.{parts_as};
 ghost use Rattle.fallible_iterator.specs.Laws.Contract.{lawful_parts};
-ghost use Rattle.fallible_itertools_adapters.specs.Coalesce.{are_equal, coalesce_call, coalesce_contract, coalesce_made, coalesce_parts, coalesce_plan, coalesce_takes, coalesced_by, count_plan, count_stops, counted_by, dedup_by_contract, dedup_by_key_contract, dedup_by_key_made, dedup_by_key_parts, dedup_by_made, dedup_by_parts, dedup_by_plan, dedup_by_with_count_contract, dedup_by_with_count_made, dedup_by_with_count_parts, dedup_contract, dedup_key_plan, dedup_key_stops, dedup_made, dedup_parts, dedup_plan, dedup_stops, dedup_with_count_contract, dedup_with_count_made, dedup_with_count_parts, keyed_by, keyed_item, same_by, same_call, same_takes};
-ghost use Rattle.fallible_itertools_adapters.specs.Staging.{IsTransition, calls_function, calls_nothing, held_one, plan_item, plan_stop, plan_takes, stop_comes};
+ghost use Rattle.fallible_itertools_adapters.specs.Coalesce.{are_equal, coalesce_call, coalesce_contract, coalesce_made, coalesce_parts, coalesced_by, counted_by, dedup_by_contract, dedup_by_key_contract, dedup_by_key_made, dedup_by_key_parts, dedup_by_made, dedup_by_parts, dedup_by_with_count_contract, dedup_by_with_count_made, dedup_by_with_count_parts, dedup_contract, dedup_made, dedup_parts, dedup_with_count_contract, dedup_with_count_made, dedup_with_count_parts, keyed_by, keyed_item, same_by, same_call, coalesce_rule, dedup_by_key_rule, dedup_by_rule, dedup_by_with_count_rule, dedup_rule, dedup_with_count_rule};
+ghost use Rattle.fallible_itertools_adapters.specs.Staging.{IsTransition, calls_function};
 ghost use Rattle.fallible_itertools_adapters.specs.Laws.Coalesce.{is_stage_coalesce, is_stage_count, is_stage_dedup, is_stage_dedup_by, is_stage_dedup_key, lawful_coalesce, lawful_dedup, lawful_dedup_by, lawful_dedup_by_key, lawful_dedup_by_with_count, lawful_dedup_with_count};
 
 use crate::staging::{
-    AnswerAndDue, Emitted, Stage, Stop, drawn_until, drive_stage, let_go, next_until, one, put_due,
-    stop_answer, with_held,
+    AnswerAndDue, Emitted, Stage, Stop, drawn_until, drive_stage, hint_with_held, let_go,
+    next_until, one, put_due, stop_answer,
 };
 use fallible_iterator::{FallibleIterator, Turn};
 
@@ -54,10 +54,7 @@ where
     }
 
     fn size_hint(&self) -> (usize, Option<usize>) {
-        match self.stage.1 {
-            Some(None) => (0, Some(0)),
-            _ => with_held(self.it.size_hint(), self.stage.0.0.is_some()),
-        }
+        hint_with_held(&self.it, &self.stage.1, &self.stage.0.0)
     }
 
     fn drive<C, R, K: Turn<C, I::Item, R>>(
@@ -81,23 +78,10 @@ impl<X: Drop, E, F: FnMut(X, X) -> Result<Result<X, (X, X)>, E>> Stage<(Option<X
 
     type Due = Stop<E>;
 
-    ghost comes = { λ _ stop. stop_comes stop };
-
-    ghost can_meet = { λ _ p x. plan_takes (coalesce_takes F.FnMut) (coalesce_plan {E = E}) p x };
-
-    ghost items = { λ _ p x emitted q. plan_item (coalesce_call F.FnMut) coalesce_plan dedup_stops p x emitted q };
-
-    ghost stops = { λ _ p stop emitted q. plan_stop (coalesce_call F.FnMut) coalesce_plan dedup_stops p stop emitted q };
-
-    ghost most = { λ _. 1 };
-
-    ghost held = { λ _ p. held_one p.0 };
+    ghost rule = { coalesce_rule F.FnMut };
 
     #[inline(always)]
-    fn on_item(&self, p: &mut (Option<X>, F), item: X) -> Emitted<X, Stop<E>, E>
-        requires { plan_takes (coalesce_takes F.FnMut) (coalesce_plan {E = E}) p.old item }
-        ensures { plan_item (coalesce_call F.FnMut) coalesce_plan dedup_stops p.old item result p.new }
-    {
+    fn on_item(&self, p: &mut (Option<X>, F), item: X) -> Emitted<X, Stop<E>, E> {
         match p.0.take() {
             None => {
                 p.0 = Some(item);
@@ -113,7 +97,7 @@ impl<X: Drop, E, F: FnMut(X, X) -> Result<Result<X, (X, X)>, E>> Stage<(Option<X
 
     #[inline(always)]
     fn on_stop(&self, p: &mut (Option<X>, F), stop: Stop<E>) -> Emitted<X, Stop<E>, E>
-        ensures { plan_stop (coalesce_call F.FnMut) coalesce_plan dedup_stops p.old stop result p.new }
+        ensures { (coalesce_rule F.FnMut).stops p.old stop result p.new }
     {
         let_go(p.0.take(), stop)
     }
@@ -123,7 +107,7 @@ impl<X: Drop, E, F: FnMut(X, X) -> Result<Result<X, (X, X)>, E>> Stage<(Option<X
         (stop_answer(due), None)
     }
 
-    ghost is_stage = { λ _. is_stage_coalesce (coalesce_call F.FnMut) };
+    ghost is_stage = { is_stage_coalesce (coalesce_call F.FnMut) };
 }
 
 // What is buffered of the two items then, and what is emitted.
@@ -186,10 +170,7 @@ where
     }
 
     fn size_hint(&self) -> (usize, Option<usize>) {
-        match self.stage.1 {
-            Some(None) => (0, Some(0)),
-            _ => with_held(self.it.size_hint(), self.stage.0.0.is_some()),
-        }
+        hint_with_held(&self.it, &self.stage.1, &self.stage.0.0)
     }
 
     fn drive<C, R, K: Turn<C, I::Item, R>>(
@@ -212,23 +193,10 @@ impl<X: PartialEq + Drop, E> Stage<(Option<X>, ()), X, E> for DedupStage {
 
     type Due = Stop<E>;
 
-    ghost comes = { λ _ stop. stop_comes stop };
-
-    ghost can_meet = { λ _ p x. ⊤ };
-
-    ghost items = { λ _ p x emitted q. plan_item calls_nothing (dedup_plan X.eq) dedup_stops p x emitted q };
-
-    ghost stops = { λ _ p stop emitted q. plan_stop calls_nothing (dedup_plan X.eq) dedup_stops p stop emitted
-        q };
-
-    ghost most = { λ _. 1 };
-
-    ghost held = { λ _ p. held_one p.0 };
+    ghost rule = { dedup_rule X.eq };
 
     #[inline(always)]
-    fn on_item(&self, p: &mut (Option<X>, ()), item: X) -> Emitted<X, Stop<E>, E>
-        ensures { plan_item calls_nothing (dedup_plan X.eq) dedup_stops p.old item result p.new }
-    {
+    fn on_item(&self, p: &mut (Option<X>, ()), item: X) -> Emitted<X, Stop<E>, E> {
         let (kept, emitted) = match p.0.take() {
             None => (item, None),
             Some(first) => {
@@ -245,7 +213,7 @@ impl<X: PartialEq + Drop, E> Stage<(Option<X>, ()), X, E> for DedupStage {
 
     #[inline(always)]
     fn on_stop(&self, p: &mut (Option<X>, ()), stop: Stop<E>) -> Emitted<X, Stop<E>, E>
-        ensures { plan_stop calls_nothing (dedup_plan X.eq) dedup_stops p.old stop result p.new }
+        ensures { (dedup_rule X.eq).stops p.old stop result p.new }
     {
         let_go(p.0.take(), stop)
     }
@@ -255,7 +223,7 @@ impl<X: PartialEq + Drop, E> Stage<(Option<X>, ()), X, E> for DedupStage {
         (stop_answer(due), None)
     }
 
-    ghost is_stage = { λ _. is_stage_dedup X.eq };
+    ghost is_stage = { is_stage_dedup X.eq };
 }
 
 /// The first of adjacent items that the closure finds the same. It is buffered until an item that differs comes, or a stop: `Ok(None)` or a failure, which the next call returns. The closure's failure is a stop.
@@ -297,10 +265,7 @@ where
     }
 
     fn size_hint(&self) -> (usize, Option<usize>) {
-        match self.stage.1 {
-            Some(None) => (0, Some(0)),
-            _ => with_held(self.it.size_hint(), self.stage.0.0.is_some()),
-        }
+        hint_with_held(&self.it, &self.stage.1, &self.stage.0.0)
     }
 
     fn drive<C, R, K: Turn<C, I::Item, R>>(
@@ -323,23 +288,10 @@ impl<X: Drop, E, F: FnMut(&X, &X) -> Result<bool, E>> Stage<(Option<X>, F), X, E
 
     type Due = Stop<E>;
 
-    ghost comes = { λ _ stop. stop_comes stop };
-
-    ghost can_meet = { λ _ p x. plan_takes (same_takes F.FnMut) (dedup_by_plan {E = E}) p x };
-
-    ghost items = { λ _ p x emitted q. plan_item (same_call F.FnMut) dedup_by_plan dedup_stops p x emitted q };
-
-    ghost stops = { λ _ p stop emitted q. plan_stop (same_call F.FnMut) dedup_by_plan dedup_stops p stop emitted q };
-
-    ghost most = { λ _. 1 };
-
-    ghost held = { λ _ p. held_one p.0 };
+    ghost rule = { dedup_by_rule F.FnMut };
 
     #[inline(always)]
-    fn on_item(&self, p: &mut (Option<X>, F), item: X) -> Emitted<X, Stop<E>, E>
-        requires { plan_takes (same_takes F.FnMut) (dedup_by_plan {E = E}) p.old item }
-        ensures { plan_item (same_call F.FnMut) dedup_by_plan dedup_stops p.old item result p.new }
-    {
+    fn on_item(&self, p: &mut (Option<X>, F), item: X) -> Emitted<X, Stop<E>, E> {
         match p.0.take() {
             None => {
                 p.0 = Some(item);
@@ -356,7 +308,7 @@ impl<X: Drop, E, F: FnMut(&X, &X) -> Result<bool, E>> Stage<(Option<X>, F), X, E
 
     #[inline(always)]
     fn on_stop(&self, p: &mut (Option<X>, F), stop: Stop<E>) -> Emitted<X, Stop<E>, E>
-        ensures { plan_stop (same_call F.FnMut) dedup_by_plan dedup_stops p.old stop result p.new }
+        ensures { (dedup_by_rule F.FnMut).stops p.old stop result p.new }
     {
         let_go(p.0.take(), stop)
     }
@@ -366,7 +318,7 @@ impl<X: Drop, E, F: FnMut(&X, &X) -> Result<bool, E>> Stage<(Option<X>, F), X, E
         (stop_answer(due), None)
     }
 
-    ghost is_stage = { λ _. is_stage_dedup_by (same_call F.FnMut) };
+    ghost is_stage = { is_stage_dedup_by (same_call F.FnMut) };
 }
 
 // What is buffered of the two items then, and what is emitted.
@@ -427,10 +379,7 @@ where
     }
 
     fn size_hint(&self) -> (usize, Option<usize>) {
-        match self.stage.1 {
-            Some(None) => (0, Some(0)),
-            _ => with_held(self.it.size_hint(), self.stage.0.0.is_some()),
-        }
+        hint_with_held(&self.it, &self.stage.1, &self.stage.0.0)
     }
 
     fn drive<C, R, T: Turn<C, I::Item, R>>(
@@ -454,23 +403,10 @@ impl<X: Drop, E, K: PartialEq + Drop, F: FnMut(&X) -> Result<K, E>> Stage<(Optio
 
     type Due = Stop<E>;
 
-    ghost comes = { λ _ stop. stop_comes stop };
-
-    ghost can_meet = { λ _ p x. plan_takes (takes_by_reference F.FnMut) (dedup_key_plan K.eq {E = E}) p x };
-
-    ghost items = { λ _ p x emitted q. plan_item (call_by_reference F.FnMut) (dedup_key_plan K.eq) dedup_key_stops p x emitted q };
-
-    ghost stops = { λ _ p stop emitted q. plan_stop (call_by_reference F.FnMut) (dedup_key_plan K.eq) dedup_key_stops p stop emitted q };
-
-    ghost most = { λ _. 1 };
-
-    ghost held = { λ _ p. held_one p.0 };
+    ghost rule = { dedup_by_key_rule K.eq F.FnMut };
 
     #[inline(always)]
-    fn on_item(&self, p: &mut (Option<(K, X)>, F), item: X) -> Emitted<X, Stop<E>, E>
-        requires { plan_takes (takes_by_reference F.FnMut) (dedup_key_plan K.eq {E = E}) p.old item }
-        ensures { plan_item (call_by_reference F.FnMut) (dedup_key_plan K.eq) dedup_key_stops p.old item result p.new }
-    {
+    fn on_item(&self, p: &mut (Option<(K, X)>, F), item: X) -> Emitted<X, Stop<E>, E> {
         let key = (p.1)(&item);
         let (kept, emitted) = by_key(p.0.take(), item, key);
         p.0 = kept;
@@ -479,7 +415,7 @@ impl<X: Drop, E, K: PartialEq + Drop, F: FnMut(&X) -> Result<K, E>> Stage<(Optio
 
     #[inline(always)]
     fn on_stop(&self, p: &mut (Option<(K, X)>, F), stop: Stop<E>) -> Emitted<X, Stop<E>, E>
-        ensures { plan_stop (call_by_reference F.FnMut) (dedup_key_plan K.eq) dedup_key_stops p.old stop result p.new }
+        ensures { (dedup_by_key_rule K.eq F.FnMut).stops p.old stop result p.new }
     {
         let_go(item_of(p.0.take()), stop)
     }
@@ -489,7 +425,7 @@ impl<X: Drop, E, K: PartialEq + Drop, F: FnMut(&X) -> Result<K, E>> Stage<(Optio
         (stop_answer(due), None)
     }
 
-    ghost is_stage = { λ _. is_stage_dedup_key K.eq (call_by_reference F.FnMut) };
+    ghost is_stage = { is_stage_dedup_key K.eq (call_by_reference F.FnMut) };
 }
 
 // The item without its key.
@@ -573,10 +509,7 @@ where
     }
 
     fn size_hint(&self) -> (usize, Option<usize>) {
-        match self.stage.1 {
-            Some(None) => (0, Some(0)),
-            _ => with_held(self.it.size_hint(), self.stage.0.0.is_some()),
-        }
+        hint_with_held(&self.it, &self.stage.1, &self.stage.0.0)
     }
 
     fn drive<C, R, K: Turn<C, (usize, I::Item), R>>(
@@ -600,25 +533,14 @@ impl<X: PartialEq + Drop, E> Stage<(Option<(usize, X)>, ()), X, E> for EqualCoun
 
     type Due = Stop<E>;
 
-    ghost comes = { λ _ stop. stop_comes stop };
-
-    ghost can_meet = { λ _ p x. ⊤ };
-
-    ghost items = { λ _ p x emitted q. plan_item (calls_function (are_equal X.eq)) count_plan count_stops
-        p x emitted q };
-
-    ghost stops = { λ _ p stop emitted q. plan_stop (calls_function (are_equal X.eq)) count_plan
-        count_stops p stop emitted q };
-
-    ghost most = { λ _. 1 };
-
-    ghost held = { λ _ p. held_one p.0 };
+    ghost rule = { dedup_with_count_rule X.eq };
 
     #[inline(always)]
-    fn on_item(&self, p: &mut (Option<(usize, X)>, ()), item: X) -> Emitted<(usize, X), Stop<E>, E>
-        ensures { plan_item (calls_function (are_equal X.eq)) count_plan count_stops p.old item result
-            p.new }
-    {
+    fn on_item(
+        &self,
+        p: &mut (Option<(usize, X)>, ()),
+        item: X,
+    ) -> Emitted<(usize, X), Stop<E>, E> {
         let (kept, emitted) = match p.0.take() {
             None => ((1, item), None),
             Some((count, first)) => {
@@ -639,8 +561,7 @@ impl<X: PartialEq + Drop, E> Stage<(Option<(usize, X)>, ()), X, E> for EqualCoun
         p: &mut (Option<(usize, X)>, ()),
         stop: Stop<E>,
     ) -> Emitted<(usize, X), Stop<E>, E>
-        ensures { plan_stop (calls_function (are_equal X.eq)) count_plan count_stops p.old stop result
-            p.new }
+        ensures { (dedup_with_count_rule X.eq).stops p.old stop result p.new }
     {
         let_go(p.0.take(), stop)
     }
@@ -650,7 +571,7 @@ impl<X: PartialEq + Drop, E> Stage<(Option<(usize, X)>, ()), X, E> for EqualCoun
         (stop_answer(due), None)
     }
 
-    ghost is_stage = { λ _. is_stage_count (calls_function (are_equal X.eq)) };
+    ghost is_stage = { is_stage_count (calls_function (are_equal X.eq)) };
 }
 
 /// The first of adjacent items that the closure finds the same beside their number. It is buffered until an item that differs comes, or a stop: `Ok(None)` or a failure, which the next call returns. The closure's failure is a stop.
@@ -693,10 +614,7 @@ where
     }
 
     fn size_hint(&self) -> (usize, Option<usize>) {
-        match self.stage.1 {
-            Some(None) => (0, Some(0)),
-            _ => with_held(self.it.size_hint(), self.stage.0.0.is_some()),
-        }
+        hint_with_held(&self.it, &self.stage.1, &self.stage.0.0)
     }
 
     fn drive<C, R, K: Turn<C, (usize, I::Item), R>>(
@@ -721,24 +639,10 @@ impl<X: Drop, E, F: FnMut(&X, &X) -> Result<bool, E>> Stage<(Option<(usize, X)>,
 
     type Due = Stop<E>;
 
-    ghost comes = { λ _ stop. stop_comes stop };
-
-    ghost can_meet = { λ _ p x. plan_takes (same_takes F.FnMut) (count_plan {E = E}) p x };
-
-    ghost items = { λ _ p x emitted q. plan_item (same_call F.FnMut) count_plan count_stops p x emitted q };
-
-    ghost stops = { λ _ p stop emitted q. plan_stop (same_call F.FnMut) count_plan count_stops p stop emitted
-        q };
-
-    ghost most = { λ _. 1 };
-
-    ghost held = { λ _ p. held_one p.0 };
+    ghost rule = { dedup_by_with_count_rule F.FnMut };
 
     #[inline(always)]
-    fn on_item(&self, p: &mut (Option<(usize, X)>, F), item: X) -> Emitted<(usize, X), Stop<E>, E>
-        requires { plan_takes (same_takes F.FnMut) (count_plan {E = E}) p.old item }
-        ensures { plan_item (same_call F.FnMut) count_plan count_stops p.old item result p.new }
-    {
+    fn on_item(&self, p: &mut (Option<(usize, X)>, F), item: X) -> Emitted<(usize, X), Stop<E>, E> {
         match p.0.take() {
             None => {
                 p.0 = Some((1, item));
@@ -759,7 +663,7 @@ impl<X: Drop, E, F: FnMut(&X, &X) -> Result<bool, E>> Stage<(Option<(usize, X)>,
         p: &mut (Option<(usize, X)>, F),
         stop: Stop<E>,
     ) -> Emitted<(usize, X), Stop<E>, E>
-        ensures { plan_stop (same_call F.FnMut) count_plan count_stops p.old stop result p.new }
+        ensures { (dedup_by_with_count_rule F.FnMut).stops p.old stop result p.new }
     {
         let_go(p.0.take(), stop)
     }
@@ -769,7 +673,7 @@ impl<X: Drop, E, F: FnMut(&X, &X) -> Result<bool, E>> Stage<(Option<(usize, X)>,
         (stop_answer(due), None)
     }
 
-    ghost is_stage = { λ _. is_stage_count (same_call F.FnMut) };
+    ghost is_stage = { is_stage_count (same_call F.FnMut) };
 }
 
 // What is buffered of the two items then, and what is emitted.

@@ -1,11 +1,11 @@
 // The adapters that put a separator between each two adjacent items.
-ghost use Rattle.std.specs.Prelude.{◌≡◌, ◌^◌, ◌-◌, min, Option, Result, ⊤, None, false};
+ghost use Rattle.std.specs.Prelude.{◌≡◌, ◌^◌, ◌-◌, min, Option, Result, None, false};
 ghost use Rattle.fallible_iterator.specs.Contract.{parts_as};
 ghost use Rattle.fallible_iterator.specs.Lists.{result_answer};
 ghost use Rattle.fallible_iterator.specs.Sources.FromFn.{call_of_none};
 ghost use Rattle.fallible_iterator.specs.Laws.Contract.{lawful_parts};
-ghost use Rattle.fallible_itertools_adapters.specs.Intersperse.{fitting, intersperse_contract, intersperse_hint, intersperse_made, intersperse_parts, intersperse_plan, intersperse_with_contract, intersperse_with_made, intersperse_with_parts, interspersed_items, separator_cloned, takes_none};
-ghost use Rattle.fallible_itertools_adapters.specs.Staging.{none_held, passes, plan_item, plan_stop, item_comes, emitted_then, plan_takes};
+ghost use Rattle.fallible_itertools_adapters.specs.Intersperse.{fitting, intersperse_contract, intersperse_hint, intersperse_made, intersperse_parts, intersperse_with_contract, intersperse_with_made, intersperse_with_parts, interspersed_items, separator_cloned, intersperse_rule, intersperse_with_rule};
+ghost use Rattle.fallible_itertools_adapters.specs.Staging.{emitted_then};
 ghost use Rattle.fallible_itertools_adapters.specs.Laws.Intersperse.{is_stage_intersperse, lawful_intersperse, lawful_intersperse_with};
 
 use crate::staging::{
@@ -79,26 +79,10 @@ impl<X: Clone + Drop, E: From<AllocError>> Stage<(bool, X), X, E> for SeparatorC
 
     type Due = X;
 
-    ghost comes = { λ _ x. item_comes x };
-
-    ghost can_meet = { λ _ p x. ⊤ };
-
-    ghost items = { λ _ p x emitted q. plan_item
-        (separator_cloned X.is_clone X.is_infallible E.from_gives) intersperse_plan passes p x emitted q };
-
-    ghost stops = { λ _ p stop emitted q. plan_stop
-        (separator_cloned X.is_clone X.is_infallible E.from_gives) intersperse_plan passes p stop emitted
-        q };
-
-    ghost most = { λ _. 2 };
-
-    ghost held = { λ _ p. none_held p.0 };
+    ghost rule = { intersperse_rule (separator_cloned X.is_clone X.is_infallible E.from_gives) };
 
     #[inline(always)]
-    fn on_item(&self, p: &mut (bool, X), item: X) -> Emitted<X, X, E>
-        ensures { plan_item (separator_cloned X.is_clone X.is_infallible E.from_gives) intersperse_plan
-            passes p.old item result p.new }
-    {
+    fn on_item(&self, p: &mut (bool, X), item: X) -> Emitted<X, X, E> {
         if p.0 {
             match p.1.clone() {
                 Ok(copy) => separated(Ok(copy), item),
@@ -112,8 +96,7 @@ impl<X: Clone + Drop, E: From<AllocError>> Stage<(bool, X), X, E> for SeparatorC
 
     #[inline(always)]
     fn on_stop(&self, _p: &mut (bool, X), stop: Stop<E>) -> Emitted<X, X, E>
-        ensures { plan_stop (separator_cloned X.is_clone X.is_infallible E.from_gives) intersperse_plan
-            passes _p.old stop result _p.new }
+        ensures { (intersperse_rule (separator_cloned X.is_clone X.is_infallible E.from_gives)).stops _p.old stop result _p.new }
     {
         one(stop_answer(stop))
     }
@@ -123,7 +106,7 @@ impl<X: Clone + Drop, E: From<AllocError>> Stage<(bool, X), X, E> for SeparatorC
         (Ok(Some(due)), None)
     }
 
-    ghost is_stage = { λ _. is_stage_intersperse
+    ghost is_stage = { is_stage_intersperse
         (separator_cloned X.is_clone X.is_infallible E.from_gives) };
 }
 
@@ -246,25 +229,10 @@ impl<X, E, F: FnMut() -> Result<X, E>> Stage<(bool, F), X, E> for SeparatorCall 
 
     type Due = X;
 
-    ghost comes = { λ _ x. item_comes x };
-
-    ghost can_meet = { λ _ p x. plan_takes (takes_none F.FnMut) (intersperse_plan {E = E}) p x };
-
-    ghost items = { λ _ p x emitted q. plan_item (call_of_none F.FnMut) intersperse_plan passes p x emitted
-        q };
-
-    ghost stops = { λ _ p stop emitted q. plan_stop (call_of_none F.FnMut) intersperse_plan passes p stop
-        emitted q };
-
-    ghost most = { λ _. 2 };
-
-    ghost held = { λ _ p. none_held p.0 };
+    ghost rule = { intersperse_with_rule F.FnMut };
 
     #[inline(always)]
-    fn on_item(&self, p: &mut (bool, F), item: X) -> Emitted<X, X, E>
-        requires { plan_takes (takes_none F.FnMut) (intersperse_plan {E = E}) p.old item }
-        ensures { plan_item (call_of_none F.FnMut) intersperse_plan passes p.old item result p.new }
-    {
+    fn on_item(&self, p: &mut (bool, F), item: X) -> Emitted<X, X, E> {
         if p.0 {
             separated((p.1)(), item)
         } else {
@@ -275,7 +243,7 @@ impl<X, E, F: FnMut() -> Result<X, E>> Stage<(bool, F), X, E> for SeparatorCall 
 
     #[inline(always)]
     fn on_stop(&self, _p: &mut (bool, F), stop: Stop<E>) -> Emitted<X, X, E>
-        ensures { plan_stop (call_of_none F.FnMut) intersperse_plan passes _p.old stop result _p.new }
+        ensures { (intersperse_with_rule F.FnMut).stops _p.old stop result _p.new }
     {
         one(stop_answer(stop))
     }
@@ -285,5 +253,5 @@ impl<X, E, F: FnMut() -> Result<X, E>> Stage<(bool, F), X, E> for SeparatorCall 
         (Ok(Some(due)), None)
     }
 
-    ghost is_stage = { λ _. is_stage_intersperse (call_of_none F.FnMut) };
+    ghost is_stage = { is_stage_intersperse (call_of_none F.FnMut) };
 }

@@ -1,12 +1,11 @@
 // The adapters that yield positions, alone or beside their items.
-ghost use Rattle.std.specs.Prelude.{Result, Option, ◌≡◌, ⊤, None};
+ghost use Rattle.std.specs.Prelude.{Result, Option, ◌≡◌, None};
 ghost use Rattle.fallible_iterator.specs.Closures.{call_by_value, takes_by_value};
 ghost use Rattle.fallible_iterator.specs.Contract.{seen_as, parts_as};
 ghost use Rattle.fallible_iterator.specs.OneToOne.Enumerate.{enumerate_contract, enumerate_made, enumerate_parts};
 ghost use Rattle.fallible_iterator.specs.Laws.Contract.{lawful_seen, lawful_parts};
 ghost use Rattle.fallible_iterator.specs.Laws.OneToOne.Enumerate.{lawful_enumerate};
-ghost use Rattle.fallible_itertools_adapters.specs.Positions.{positions_contract, positions_outcome, positions_made, positions_parts, position_before_item, position_before_stop, position_plan, position_stops, positioned_last, with_position_contract, with_position_made, with_position_parts};
-ghost use Rattle.fallible_itertools_adapters.specs.Staging.{calls_nothing, held_one, plan_item, plan_stop, stop_comes};
+ghost use Rattle.fallible_itertools_adapters.specs.Positions.{positions_contract, positions_outcome, positions_made, positions_parts, position_before_item, position_before_stop, positioned_last, with_position_contract, with_position_made, with_position_parts, position_rule};
 ghost use Rattle.fallible_itertools_adapters.specs.Laws.Positions.{is_stage_position, lawful_positions, lawful_with_position};
 
 use crate::staging::{
@@ -184,27 +183,14 @@ impl<X: Drop, E> Stage<(Option<(bool, X)>, ()), X, E> for PositionStage {
 
     type Due = Stop<E>;
 
-    ghost comes = { λ _ stop. stop_comes stop };
-
-    ghost can_meet = { λ _ p x. ⊤ };
-
-    ghost items = { λ _ p x emitted q. plan_item calls_nothing position_plan position_stops p x emitted q };
-
-    ghost stops = { λ _ p stop emitted q. plan_stop calls_nothing position_plan position_stops p stop emitted
-        q };
-
-    ghost most = { λ _. 1 };
-
-    ghost held = { λ _ p. held_one p.0 };
+    ghost rule = { position_rule };
 
     #[inline(always)]
     fn on_item(
         &self,
         p: &mut (Option<(bool, X)>, ()),
         item: X,
-    ) -> Emitted<(Position, X), Stop<E>, E>
-        ensures { plan_item calls_nothing position_plan position_stops p.old item result p.new }
-    {
+    ) -> Emitted<(Position, X), Stop<E>, E> {
         let is_later = p.0.is_some();
         match replace(&mut p.0, Some((is_later, item))) {
             Some((was_later, before)) => one(Ok(Some((first_or_middle(was_later), before)))),
@@ -218,7 +204,7 @@ impl<X: Drop, E> Stage<(Option<(bool, X)>, ()), X, E> for PositionStage {
         p: &mut (Option<(bool, X)>, ()),
         stop: Stop<E>,
     ) -> Emitted<(Position, X), Stop<E>, E>
-        ensures { plan_stop calls_nothing position_plan position_stops p.old stop result p.new }
+        ensures { (position_rule {A = X} {E = E}).stops p.old stop result p.new }
     {
         let_go(placed_last(p.0.take()), stop)
     }
@@ -228,7 +214,7 @@ impl<X: Drop, E> Stage<(Option<(bool, X)>, ()), X, E> for PositionStage {
         (stop_answer(due), None)
     }
 
-    ghost is_stage = { λ _. is_stage_position };
+    ghost is_stage = { is_stage_position };
 }
 
 // The buffered item with its position before a stop.

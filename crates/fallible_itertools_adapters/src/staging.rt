@@ -1,8 +1,8 @@
 //! Adapters of one source by what is emitted at each of its answers: nothing, or one answer and what is due after it.
-ghost use Rattle.std.specs.Prelude.{◌≡◌, ℕ, if◌then◌else◌, Option, Result, Some, None, Ok, Err};
+ghost use Rattle.std.specs.Prelude.{◌≡◌, if◌then◌else◌, Some, None, Ok, Err};
 ghost use Rattle.fallible_iterator.specs.Folds.{CallableDriving, Driven, TurnThrough, beside, beside_names};
 ghost use Rattle.fallible_iterator.specs.Passing.{IfItem};
-ghost use Rattle.fallible_itertools_adapters.specs.Staging.{before_stop, held_hint, DrawsUpTo, DueTakes, DueTold, IsStage, EmittedTakes, EmittedTold, Met, MetTakes, PassesNoneOver, StageTurns, TakesAll, Told, due_comes, due_left, emitted_then, one_emitted, stage_meets, stage_step, stop_answer};
+ghost use Rattle.fallible_itertools_adapters.specs.Staging.{before_stop, held_hint, DrawsUpTo, DueTakes, DueTold, IsStage, EmittedTakes, EmittedTold, Met, MetTakes, PassesNoneOver, Rule, StageTurns, TakesAll, Told, due_comes, due_left, emitted_then, one_emitted, rule_meets, stage_step, stop_answer, HintBy, calls, held_one, hint_unless_end};
 ghost use Rattle.std.specs.declared.ops.ControlFlow.TheVariants.{Break};
 
 use fallible_iterator::extending::Beside;
@@ -69,6 +69,21 @@ pub fn with_held(hint: (usize, Option<usize>), is_held: bool) -> (usize, Option<
     (low, high)
 }
 
+/// The hint of such an adapter: no item comes once an end is due, and otherwise it is `with_held` of the source's.
+pub fn hint_with_held<I: FallibleIterator, H>(
+    it: &I,
+    due: &Option<Stop<I::Error>>,
+    held: &Option<H>,
+) -> (usize, Option<usize>)
+    ensures { HintBy I.contract it.now
+        (hint_unless_end (calls tt (held_hint (held_one held.now))) due.now) result }
+{
+    match *due {
+        Some(None) => (0, Some(0)),
+        _ => with_held(it.size_hint(), held.is_some()),
+    }
+}
+
 /// What an adapter emits at each answer of its source. It holds a `P`; the source yields `X`.
 pub trait Stage<P, X, E> {
     /// What the adapter yields.
@@ -77,43 +92,24 @@ pub trait Stage<P, X, E> {
     /// What may be due after an answer.
     type Due;
 
-    // What is due: an answer, or none where ends come from then on.
-    ghost comes: { Self → Self.Due → Option (Result (Option Self.Kept) E) };
-
-    // Holds of what is held and of the items on which the call may be made then.
-    ghost can_meet: { Self → P → X → Type 0 };
-
-    // Holds of what was held and the item, of what is emitted, and of what is held then.
-    ghost items: { Self → P → X
-        → Option (Result (Option Self.Kept) E × Option Self.Due) → P → Type 0 };
-
-    // The same for a stop: an end, `None`, or a failure.
-    ghost stops: { Self → P → Option E
-        → Option (Result (Option Self.Kept) E × Option Self.Due) → P → Type 0 };
-
-    // At most how many answers are emitted at an item.
-    ghost most: { Self → ℕ };
-
-    // How many answers are held.
-    ghost held: { Self → P → ℕ };
+    // What it emits, takes and holds.
+    ghost rule: { Rule P X Self.Kept Self.Due E };
 
     /// What becomes of an item.
     fn on_item(&self, p: &mut P, item: X) -> Emitted<Self::Kept, Self::Due, E>
-        requires { can_meet self.now p.old item }
-        ensures { items self.now p.old item result p.new };
+        requires { rule.takes p.old item }
+        ensures { rule.items p.old item result p.new };
 
     /// What becomes of a stop of the source.
     fn on_stop(&self, p: &mut P, stop: Stop<E>) -> Emitted<Self::Kept, Self::Due, E>
-        ensures { stops self.now p.old stop result p.new };
+        ensures { rule.stops p.old stop result p.new };
 
     /// The answer that was due, and what is due after it.
     fn answer_due(&self, due: Self::Due) -> AnswerAndDue<Self::Kept, Self::Due, E>
-        ensures { result ≡ (due_comes (comes self.now due), due_left due (comes self.now due)) };
+        ensures { result ≡ (due_comes (rule.comes due), due_left due (rule.comes due)) };
 
     // So many answers are emitted and held; at a stop a stop is.
-    ghost is_stage: { (stage : Self)
-        → IsStage (comes stage) (stage_meets (items stage) (stops stage)) (most stage)
-        (held stage) };
+    ghost is_stage: { IsStage rule.comes (rule_meets rule) rule.most rule.held };
 }
 
 /// What becomes of an answer of the source.
@@ -123,8 +119,8 @@ pub fn emitted_of<P, X, E, G: Stage<P, X, E>>(
     p: &mut P,
     stage: &G,
 ) -> Emitted<G::Kept, G::Due, E>
-    requires { IfItem (G.can_meet stage.now p.old) answer }
-    ensures { stage_meets (G.items stage.now) (G.stops stage.now) p.old answer result p.new }
+    requires { IfItem (G.rule.takes p.old) answer }
+    ensures { rule_meets G.rule p.old answer result p.new }
 {
     match answer {
         Ok(Some(x)) => stage.on_item(p, x),
@@ -173,8 +169,8 @@ fn tell_due<P, X, E, G: Stage<P, X, E>, C, R, K: Turn<C, G::Kept, R>>(
     state: &mut C,
     turn: &K,
 ) -> ControlFlow<AnswerAndDue<R, G::Due, E>, ()>
-    requires { DueTakes (K.turns turn.now) (G.comes adapter.now) (K.can_turn turn.now) state.old due }
-    ensures { DueTold (K.turns turn.now) (G.comes adapter.now) state.old due result state.new }
+    requires { DueTakes (K.turns turn.now) G.rule.comes (K.can_turn turn.now) state.old due }
+    ensures { DueTold (K.turns turn.now) G.rule.comes state.old due result state.new }
 {
     match due {
         None => ControlFlow::Continue(()),
@@ -197,8 +193,8 @@ fn tell_emitted<P, X, E, G: Stage<P, X, E>, C, R, K: Turn<C, G::Kept, R>>(
     state: &mut C,
     turn: &K,
 ) -> ControlFlow<AnswerAndDue<R, G::Due, E>, ()>
-    requires { EmittedTakes (K.turns turn.now) (G.comes adapter.now) (K.can_turn turn.now) state.old emitted }
-    ensures { EmittedTold (K.turns turn.now) (G.comes adapter.now) state.old emitted result state.new }
+    requires { EmittedTakes (K.turns turn.now) G.rule.comes (K.can_turn turn.now) state.old emitted }
+    ensures { EmittedTold (K.turns turn.now) G.rule.comes state.old emitted result state.new }
 {
     match emitted {
         None => ControlFlow::Continue(()),
@@ -217,13 +213,10 @@ pub fn next_stage<I: FallibleIterator, P, G: Stage<P, I::Item, I::Error>>(
 ) -> Result<Option<G::Kept>, I::Error>
 where
     requires can_next { I.contract.can_next it.old }
-    requires takes { TakesAll I.contract (stage_meets (G.items adapter.now) (G.stops adapter.now))
-        (G.can_meet adapter.now) it.old stage.old.0 }
-    requires makes { PassesNoneOver (stage_meets (G.items adapter.now) (G.stops adapter.now))
-        stage.old.0 }
-    ensures { stage_step (G.comes adapter.now)
-        (stage_meets (G.items adapter.now) (G.stops adapter.now)) I.contract.steps
-        (it.old, stage.old) result (it.new, stage.new) }
+    requires takes { TakesAll I.contract (rule_meets G.rule) G.rule.takes it.old stage.old.0 }
+    requires makes { PassesNoneOver (rule_meets G.rule) stage.old.0 }
+    ensures { stage_step G.rule.comes (rule_meets G.rule) I.contract.steps (it.old, stage.old)
+        result (it.new, stage.new) }
 {
     match stage.1.take() {
         Some(due) => {
@@ -250,11 +243,9 @@ pub fn next_until<I: FallibleIterator, P, G: Stage<P, I::Item, I::Error>>(
 where
     requires can_next { I.contract.can_next it.old }
     requires finite { I.contract.is_finite it.old }
-    requires takes { TakesAll I.contract (stage_meets (G.items adapter.now) (G.stops adapter.now))
-        (G.can_meet adapter.now) it.old stage.old.0 }
-    ensures { stage_step (G.comes adapter.now)
-        (stage_meets (G.items adapter.now) (G.stops adapter.now)) I.contract.steps
-        (it.old, stage.old) result (it.new, stage.new) }
+    requires takes { TakesAll I.contract (rule_meets G.rule) G.rule.takes it.old stage.old.0 }
+    ensures { stage_step G.rule.comes (rule_meets G.rule) I.contract.steps (it.old, stage.old)
+        result (it.new, stage.new) }
 {
     match stage.1.take() {
         Some(due) => {
@@ -280,11 +271,9 @@ pub fn drawn_until<I: FallibleIterator, P, G: Stage<P, I::Item, I::Error>>(
 where
     requires can_next { I.contract.can_next it.old }
     requires finite { I.contract.is_finite it.old }
-    requires takes { TakesAll I.contract (stage_meets (G.items adapter.now) (G.stops adapter.now))
-        (G.can_meet adapter.now) it.old held.old }
-    ensures { DrawsUpTo (G.comes adapter.now)
-        (stage_meets (G.items adapter.now) (G.stops adapter.now)) I.contract.steps
-        it.old held.old result.0 it.new (held.new, result.1) }
+    requires takes { TakesAll I.contract (rule_meets G.rule) G.rule.takes it.old held.old }
+    ensures { DrawsUpTo G.rule.comes (rule_meets G.rule) I.contract.steps it.old held.old result.0
+        it.new (held.new, result.1) }
 {
     let mut left = it.number();
     loop {
@@ -312,13 +301,13 @@ impl<'a, 'b, P, X, E, C, R, G: Stage<P, X, E>, K: Turn<C, G::Kept, R>> Turn<
     X,
     AnswerAndDue<R, G::Due, E>,
 > for StageTurn<'a, G, K> {
-    ghost can_turn = { λ k b x. MetTakes (G.comes k.adapter.now)
-        (stage_meets (G.items k.adapter.now) (G.stops k.adapter.now)) (K.turns k.turn.now)
-        (G.can_meet k.adapter.now) (K.can_turn k.turn.now) (beside b) (Ok (Some x)) };
+    ghost can_turn = { λ k b x. MetTakes G.rule.comes
+        (rule_meets G.rule) (K.turns k.turn.now)
+        G.rule.takes (K.can_turn k.turn.now) (beside b) (Ok (Some x)) };
 
     ghost turns = { λ k b x r d. TurnThrough beside beside_names
-        (StageTurns (G.comes k.adapter.now)
-        (stage_meets (G.items k.adapter.now) (G.stops k.adapter.now)) (K.turns k.turn.now))
+        (StageTurns G.rule.comes
+        (rule_meets G.rule) (K.turns k.turn.now))
         b x r d };
 
     #[inline(always)]
@@ -354,13 +343,10 @@ pub fn drive_stage<
 where
     requires can_next { I.contract.can_next it.old }
     requires finite { I.contract.is_finite it.old }
-    requires takes { TakesAll I.contract (stage_meets (G.items adapter.now) (G.stops adapter.now))
-        (G.can_meet adapter.now) it.old stage.old.0 }
-    requires callable { CallableDriving (stage_step (G.comes adapter.now)
-        (stage_meets (G.items adapter.now) (G.stops adapter.now)) I.contract.steps)
-        (K.turns turn.now) (K.can_turn turn.now) (it.old, stage.old) state.old }
-    ensures { Driven (stage_step (G.comes adapter.now)
-        (stage_meets (G.items adapter.now) (G.stops adapter.now)) I.contract.steps)
+    requires takes { TakesAll I.contract (rule_meets G.rule) G.rule.takes it.old stage.old.0 }
+    requires callable { CallableDriving (stage_step G.rule.comes (rule_meets G.rule)
+        I.contract.steps) (K.turns turn.now) (K.can_turn turn.now) (it.old, stage.old) state.old }
+    ensures { Driven (stage_step G.rule.comes (rule_meets G.rule) I.contract.steps)
         (K.turns turn.now) (it.old, stage.old) state.old result (it.new, stage.new) state.new }
 {
     match tell_due(stage.1.take(), adapter, state, turn) {
@@ -395,15 +381,15 @@ fn drive_undue<
 where
     requires can_next { I.contract.can_next it.old }
     requires finite { I.contract.is_finite it.old }
-    requires takes { TakesAll I.contract (stage_meets (G.items adapter.now) (G.stops adapter.now))
-        (G.can_meet adapter.now) it.old held.old }
-    requires callable { CallableDriving (stage_step (G.comes adapter.now)
-        (stage_meets (G.items adapter.now) (G.stops adapter.now)) I.contract.steps)
+    requires takes { TakesAll I.contract (rule_meets G.rule) G.rule.takes it.old held.old }
+    requires callable { CallableDriving (stage_step G.rule.comes
+        (rule_meets G.rule) I.contract.steps)
         (K.turns turn.now) (K.can_turn turn.now) (it.old, (held.old, None)) state.old }
-    ensures { Driven (stage_step (G.comes adapter.now)
-        (stage_meets (G.items adapter.now) (G.stops adapter.now)) I.contract.steps)
-        (K.turns turn.now) (it.old, (held.old, None)) state.old result.0
-        (it.new, (held.new, result.1)) state.new }
+    ensures { Driven (stage_step G.rule.comes (rule_meets G.rule) I.contract.steps)
+        (K.turns turn.now) (it.old, (held.old, None)) state.old result.0 (
+          it.new,
+          (held.new, result.1),
+        ) state.new }
 {
     match drive_items(it, held, adapter, state, turn) {
         Ok(Some(told)) => told,
@@ -431,17 +417,12 @@ fn drive_items<
 where
     requires can_next { I.contract.can_next it.old }
     requires finite { I.contract.is_finite it.old }
-    requires callable { CallableDriving I.contract.steps
-        (StageTurns (G.comes adapter.now) (stage_meets (G.items adapter.now) (G.stops adapter.now))
-        (K.turns turn.now))
-        (λ b x. MetTakes (G.comes adapter.now)
-        (stage_meets (G.items adapter.now) (G.stops adapter.now)) (K.turns turn.now)
-        (G.can_meet adapter.now) (K.can_turn turn.now) b (Ok (Some x)))
-        it.old (state.old, held.old) }
-    ensures { Driven I.contract.steps
-        (StageTurns (G.comes adapter.now) (stage_meets (G.items adapter.now) (G.stops adapter.now))
-        (K.turns turn.now))
-        it.old (state.old, held.old) result it.new (state.new, held.new) }
+    requires callable { CallableDriving I.contract.steps (StageTurns G.rule.comes
+        (rule_meets G.rule) (K.turns turn.now)) (λ b x. MetTakes G.rule.comes (rule_meets G.rule)
+        (K.turns turn.now) G.rule.takes (K.can_turn turn.now) b (Ok (Some x))) it.old
+        (state.old, held.old) }
+    ensures { Driven I.contract.steps (StageTurns G.rule.comes (rule_meets G.rule)
+        (K.turns turn.now)) it.old (state.old, held.old) result it.new (state.new, held.new) }
 {
     let mut both = Beside { c: state, p: held };
     it.drive(&mut both, &StageTurn { adapter, turn })
@@ -455,12 +436,10 @@ fn tell_stop<P, X, E, G: Stage<P, X, E>, C, R, K: Turn<C, G::Kept, R>>(
     state: &mut C,
     turn: &K,
 ) -> AnswerAndDue<R, G::Due, E>
-    requires { MetTakes (G.comes adapter.now)
-        (stage_meets (G.items adapter.now) (G.stops adapter.now)) (K.turns turn.now)
-        (G.can_meet adapter.now) (K.can_turn turn.now) (state.old, held.old) (stop_answer stop) }
-    ensures { Met (G.comes adapter.now)
-        (stage_meets (G.items adapter.now) (G.stops adapter.now)) (K.turns turn.now)
-        (state.old, held.old) (stop_answer stop) (Break result) (state.new, held.new) }
+    requires { MetTakes G.rule.comes (rule_meets G.rule) (K.turns turn.now) G.rule.takes
+        (K.can_turn turn.now) (state.old, held.old) (stop_answer stop) }
+    ensures { Met G.rule.comes (rule_meets G.rule) (K.turns turn.now) (state.old, held.old)
+        (stop_answer stop) (Break result) (state.new, held.new) }
 {
     match tell_emitted(adapter.on_stop(held, stop), adapter, state, turn) {
         ControlFlow::Break(told) => told,

@@ -1,11 +1,10 @@
 //! The adapter that ends after the first item that a predicate rejects.
 ghost use Rattle.std.specs.Prelude.{Result, Option, None, ◌≡◌};
-ghost use Rattle.fallible_iterator.specs.Closures.{call_by_reference, takes_by_reference};
+ghost use Rattle.fallible_iterator.specs.Closures.{call_by_reference};
 ghost use Rattle.fallible_iterator.specs.Contract.{parts_as};
 ghost use Rattle.fallible_iterator.specs.Laws.Contract.{lawful_parts};
 ghost use Rattle.fallible_itertools_adapters.specs.Laws.TakeWhileInclusive.{is_stage_inclusive, lawful_inclusive};
-ghost use Rattle.fallible_itertools_adapters.specs.Staging.{ends_come, none_held, passes, plan_item, plan_stop, plan_takes};
-ghost use Rattle.fallible_itertools_adapters.specs.TakeWhileInclusive.{inclusive_contract, inclusive_made, inclusive_parts, inclusive_plan};
+ghost use Rattle.fallible_itertools_adapters.specs.TakeWhileInclusive.{inclusive_contract, inclusive_made, inclusive_parts, inclusive_rule};
 
 use crate::staging::{
     AnswerAndDue, Emitted, Stage, Stop, drive_stage, next_stage, one, one_then, stop_answer,
@@ -79,25 +78,10 @@ impl<X: Drop, E, P: FnMut(&X) -> Result<bool, E>> Stage<((), P), X, E> for Inclu
 
     type Due = ();
 
-    ghost comes = { λ _ due. ends_come due };
-
-    ghost can_meet = { λ _ p x. plan_takes (takes_by_reference P.FnMut) (inclusive_plan {E = E}) p x };
-
-    ghost items = { λ _ p x emitted q. plan_item (call_by_reference P.FnMut) inclusive_plan passes p x
-        emitted q };
-
-    ghost stops = { λ _ p stop emitted q. plan_stop (call_by_reference P.FnMut) inclusive_plan passes p
-        stop emitted q };
-
-    ghost most = { λ _. 1 };
-
-    ghost held = { λ _ p. none_held p.0 };
+    ghost rule = { inclusive_rule P.FnMut };
 
     #[inline(always)]
-    fn on_item(&self, p: &mut ((), P), item: X) -> Emitted<X, (), E>
-        requires { plan_takes (takes_by_reference P.FnMut) (inclusive_plan {E = E}) p.old item }
-        ensures { plan_item (call_by_reference P.FnMut) inclusive_plan passes p.old item result p.new }
-    {
+    fn on_item(&self, p: &mut ((), P), item: X) -> Emitted<X, (), E> {
         match (p.1)(&item) {
             Ok(true) => one(Ok(Some(item))),
             Ok(false) => one_then(Ok(Some(item)), ()),
@@ -107,7 +91,7 @@ impl<X: Drop, E, P: FnMut(&X) -> Result<bool, E>> Stage<((), P), X, E> for Inclu
 
     #[inline(always)]
     fn on_stop(&self, _p: &mut ((), P), stop: Stop<E>) -> Emitted<X, (), E>
-        ensures { plan_stop (call_by_reference P.FnMut) inclusive_plan passes _p.old stop result _p.new }
+        ensures { (inclusive_rule P.FnMut).stops _p.old stop result _p.new }
     {
         one(stop_answer(stop))
     }
@@ -117,5 +101,5 @@ impl<X: Drop, E, P: FnMut(&X) -> Result<bool, E>> Stage<((), P), X, E> for Inclu
         (Ok(None), Some(due))
     }
 
-    ghost is_stage = { λ _. is_stage_inclusive (call_by_reference P.FnMut) };
+    ghost is_stage = { is_stage_inclusive (call_by_reference P.FnMut) };
 }

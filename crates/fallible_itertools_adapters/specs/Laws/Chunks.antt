@@ -12,11 +12,10 @@ use Rattle.std.proofs.lemmas.Bool.{ltb-true, ltb-false}
 use Rattle.std.proofs.lemmas.Grind.{div_ceil_times}
 use Rattle.fallible_iterator.specs.Contract.{Contract, Lawful}
 use Rattle.fallible_iterator.specs.Hints.{fitting_sum}
-use Rattle.fallible_iterator.specs.Sound.{HintsHold}
 use Rattle.fallible_iterator.specs.Laws.Hints.Joining.{if_some_fitting_sum_at_least_both}
-use Rattle.fallible_itertools_adapters.specs.Chunks.{Grown, Put, Puts, batch_at, batch_by, chunks_plan, chunks_stops, held_without_item, puts, vec_count, batch_held, chunks_contract, chunks_hint_plan, batches_hint, KeyedPut, chunk_by_contract, chunk_by_plan, chunk_by_stops, group_at, group_by, group_kept, puts_by_key, takes_key}
-use Rattle.fallible_itertools_adapters.specs.Staging.{Emitted, IsTransition, Transition, before_stop, held_one, held_sound, plan_meets, stop_comes, plan_hint, IsStage, stage_step, held_hint_plan, held_hint}
-use Rattle.fallible_itertools_adapters.specs.Laws.Staging.{EmittedFew, ItemBuffers, ItemWeighs, MakesNoFewer, before_stop_weighs, failure_buffers, held_hold_by_makes, is_stage_buffering, is_stage_plan, lawful_bounded, lawful_closure, lawful_plan, makes_at_most_items_and_held, one_held_hold}
+use Rattle.fallible_itertools_adapters.specs.Chunks.{Grown, Put, Puts, batch_at, batch_by, chunks_plan, chunks_stops, held_without_item, puts, vec_count, batch_held, chunks_contract, KeyedPut, chunk_by_contract, chunk_by_plan, chunk_by_stops, group_at, group_by, group_kept, puts_by_key, takes_key, chunk_by_rule, chunks_rule}
+use Rattle.fallible_itertools_adapters.specs.Staging.{Emitted, IsTransition, Transition, before_stop, held_one, plan_meets, stop_comes, IsStage}
+use Rattle.fallible_itertools_adapters.specs.Laws.Staging.{EmittedFew, ItemBuffers, ItemWeighs, MakesNoFewer, before_stop_weighs, failure_buffers, held_hold_by_makes, is_stage_buffering, is_stage_plan, lawful_bounded, makes_at_most_items_and_held, one_held_hold, HintHolds, closure_stays, lawful_rule}
 
 -- ---- The hint of `Chunks`: how many batches come at least, and at most
 
@@ -109,12 +108,12 @@ module _ {A E : Type 0} (from : AllocError → E → Type 0) where
   pub is_stage_chunks : IsStage stop_comes (plan_meets (puts {A = A} from) (chunks_plan vec_count) chunks_stops) 1 (λ p. batch_held p.0)
   is_stage_chunks = is_stage_plan stop_comes 1 batch_held (puts from) (chunks_plan vec_count) chunks_stops (λ h x put. batch_by_weighs E vec_count h put) (λ h stop. before_stop_weighs batch_held h (h.0, None) h.1 stop refl refl)
 
-  chunks_hold : {S : Type 0} {m : Contract S A E} → Lawful m → HintsHold (λ p r q. stage_step stop_comes (plan_meets (puts {A = A} from) (chunks_plan vec_count) chunks_stops) m.steps p r q) (plan_hint m chunks_hint_plan) (held_sound m batches_hint)
+  chunks_hold : {S : Type 0} {m : Contract S A E} → Lawful m → HintHolds m (chunks_rule from)
   chunks_hold {m = m} l = held_hold_by_makes (puts from) (chunks_plan vec_count) chunks_stops (λ h n. n + batch_held h) (λ h low n. EnoughBegun from h.0 h.1 low n) (λ h k. div_ceil k (max h.0 1)) (λ h o. fitting_sum o (Some (held_one h.1))) (λ h o n le. if_some_fitting_sum_at_least_both o (Some (held_one h.1)) n (held_one h.1) (n + held_one h.1) (omega arith) le (omega arith)) (λ h low n few. batches_at_most from h.0 low n h.1 few)
       (makes_at_most_items_and_held stop_comes (plan_meets (puts from) (chunks_plan vec_count) chunks_stops) (λ p. batch_held p.0) is_stage_chunks) (chunks_make_no_fewer from) m l.hold
 
   pub lawful_chunks : {S : Type 0} {m : Contract S A E} → Lawful m → Lawful (chunks_contract from m)
-  lawful_chunks {m = m} l = lawful_plan l stop_comes (puts from) (chunks_plan vec_count) chunks_stops 1 batch_held chunks_hint_plan is_stage_chunks (held_sound m batches_hint) (chunks_hold l)
+  lawful_chunks {m = m} l = lawful_rule l (chunks_rule from) is_stage_chunks (λ Q R p q weak reached c. tt) (chunks_hold l)
 
 -- ---- The contract of `ChunkBy` is lawful where the source's is
 
@@ -139,4 +138,4 @@ module _ {F A K E : Type 0} (from : AllocError → E → Type 0) (eq : K → K �
   is_stage_chunk_by = is_stage_buffering held_one (puts_by_key from eq g) (chunk_by_plan eq) chunk_by_stops (λ held x v. group_by_buffers E eq held v) (λ held stop. before_stop_weighs held_one held None held stop refl refl)
 
   pub lawful_chunk_by : {S : Type 0} {m : Contract S A E} → Lawful m → Lawful (chunk_by_contract from eq g m)
-  lawful_chunk_by {m = m} l = lawful_closure (lawful_bounded l) stop_comes (puts_by_key from eq g) (chunk_by_plan eq) chunk_by_stops 1 held_one (held_hint_plan held_one) is_stage_chunk_by (held_sound m (λ held. held_hint (held_one held))) (one_held_hold E (λ held. held) (λ held. None) held_one (λ held. refl) (puts_by_key from eq g) (chunk_by_plan eq) (λ held x v. group_by_buffers E eq held v) m l.hold) (takes_key g)
+  lawful_chunk_by {m = m} l = lawful_rule (lawful_bounded l) (chunk_by_rule from eq g) is_stage_chunk_by (closure_stays (takes_key g) (chunk_by_plan {E = E} eq)) (one_held_hold E (λ held. held) (λ held. None) held_one (λ held. refl) (puts_by_key from eq g) (chunk_by_plan eq) (λ held x v. group_by_buffers E eq held v) m l.hold)

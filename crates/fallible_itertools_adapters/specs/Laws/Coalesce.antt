@@ -5,10 +5,9 @@ use Rattle.std.specs.Fn.{Mut}
 use Rattle.std.proofs.Common.{arith, refl}
 use Rattle.fallible_iterator.specs.Closures.{call_by_reference, takes_by_reference}
 use Rattle.fallible_iterator.specs.Contract.{Contract, Lawful}
-use Rattle.fallible_iterator.specs.Sound.{HintsHold}
-use Rattle.fallible_itertools_adapters.specs.Coalesce.{OneOrBoth, are_equal, coalesce_call, coalesce_contract, coalesce_plan, coalesce_takes, coalesced_by, count_plan, count_stops, counted_by, dedup_by_contract, dedup_by_key_contract, dedup_by_plan, dedup_by_with_count_contract, dedup_contract, dedup_key_plan, dedup_key_stops, dedup_plan, dedup_stops, dedup_with_count_contract, keyed_by, keyed_item, same_by, same_call, same_takes, unless_same, unless_same_key}
-use Rattle.fallible_itertools_adapters.specs.Staging.{held_hint_plan, held_one, held_hint, held_sound, calls_nothing, plan_meets, IsStage, stop_comes, plan_hint, calls_function, stage_step}
-use Rattle.fallible_itertools_adapters.specs.Laws.Staging.{Always, ItemBuffers, StopWeighs, before_stop_weighs, is_stage_buffering, lawful_bounded, lawful_closure, lawful_plan, one_held_hold}
+use Rattle.fallible_itertools_adapters.specs.Coalesce.{OneOrBoth, are_equal, coalesce_call, coalesce_contract, coalesce_plan, coalesce_rule, coalesce_takes, coalesced_by, count_plan, count_stops, counted_by, dedup_by_contract, dedup_by_key_contract, dedup_by_key_rule, dedup_by_plan, dedup_by_rule, dedup_by_with_count_contract, dedup_by_with_count_rule, dedup_contract, dedup_key_plan, dedup_key_stops, dedup_plan, dedup_rule, dedup_stops, dedup_with_count_contract, dedup_with_count_rule, keyed_by, keyed_item, same_by, same_call, same_takes, unless_same, unless_same_key}
+use Rattle.fallible_itertools_adapters.specs.Staging.{held_one, calls_nothing, plan_meets, IsStage, stop_comes, calls_function, buffering, held_hint}
+use Rattle.fallible_itertools_adapters.specs.Laws.Staging.{Always, ItemBuffers, StopWeighs, before_stop_weighs, closure_stays, is_stage_buffering, lawful_bounded, lawful_rule, one_held_hold, HintHolds}
 
 -- ---- The contract of `Dedup` is lawful where the source's is
 
@@ -28,7 +27,7 @@ pub is_stage_dedup : {A E : Type 0} (eq : A → A → Bool) → IsStage stop_com
 is_stage_dedup {E = E} eq = is_stage_buffering held_one calls_nothing (dedup_plan eq) dedup_stops (dedup_plan_buffers E eq) (dedup_stops_weighs E)
 
 pub lawful_dedup : {S A E : Type 0} {m : Contract S A E} (eq : A → A → Bool) → Lawful m → Lawful (dedup_contract eq m)
-lawful_dedup {E = E} {m = m} eq l = lawful_plan (lawful_bounded l) stop_comes calls_nothing (dedup_plan eq) dedup_stops 1 held_one (held_hint_plan held_one) (is_stage_dedup eq) (held_sound m (λ held. held_hint (held_one held))) (one_held_hold E (λ held. held) (λ held. None) held_one (λ held. refl) calls_nothing (dedup_plan eq) (dedup_plan_buffers E eq) m l.hold)
+lawful_dedup {E = E} {m = m} eq l = lawful_rule (lawful_bounded l) (dedup_rule eq) (is_stage_dedup eq) (λ Q R p q weak reached c. tt) (one_held_hold E (λ held. held) (λ held. None) held_one (λ held. refl) calls_nothing (dedup_plan eq) (dedup_plan_buffers E eq) m l.hold)
 
 -- ---- The contract of `Coalesce` is lawful where the source's is
 
@@ -46,7 +45,7 @@ pub is_stage_coalesce : {F A E : Type 0} (call : F → A × A → OneOrBoth A E 
 is_stage_coalesce {E = E} call = is_stage_buffering held_one call coalesce_plan dedup_stops (coalesce_plan_buffers E) (dedup_stops_weighs E)
 
 pub lawful_coalesce : {S A F E : Type 0} {m : Contract S A E} (g : Mut F (A × (A × Unit {0})) (OneOrBoth A E)) → Lawful m → Lawful (coalesce_contract g m)
-lawful_coalesce {E = E} {m = m} g l = lawful_closure (lawful_bounded l) stop_comes (coalesce_call g) coalesce_plan dedup_stops 1 held_one (held_hint_plan held_one) (is_stage_coalesce (coalesce_call g)) (held_sound m (λ held. held_hint (held_one held))) (one_held_hold E (λ held. held) (λ held. None) held_one (λ held. refl) (coalesce_call g) coalesce_plan (coalesce_plan_buffers E) m l.hold) (coalesce_takes g)
+lawful_coalesce {E = E} {m = m} g l = lawful_rule (lawful_bounded l) (coalesce_rule g) (is_stage_coalesce (coalesce_call g)) (closure_stays (coalesce_takes g) coalesce_plan) (one_held_hold E (λ held. held) (λ held. None) held_one (λ held. refl) (coalesce_call g) coalesce_plan (coalesce_plan_buffers E) m l.hold)
 
 -- ---- The contract of `DedupBy` is lawful where the source's is
 
@@ -63,7 +62,7 @@ pub is_stage_dedup_by : {F A E : Type 0} (call : F → A × A → Result Bool E 
 is_stage_dedup_by {E = E} call = is_stage_buffering held_one call dedup_by_plan dedup_stops (dedup_by_plan_buffers E) (dedup_stops_weighs E)
 
 pub lawful_dedup_by : {S A F E : Type 0} {m : Contract S A E} (g : Mut F (Bor A × (Bor A × Unit {0})) (Result Bool E)) → Lawful m → Lawful (dedup_by_contract g m)
-lawful_dedup_by {E = E} {m = m} g l = lawful_closure (lawful_bounded l) stop_comes (same_call g) dedup_by_plan dedup_stops 1 held_one (held_hint_plan held_one) (is_stage_dedup_by (same_call g)) (held_sound m (λ held. held_hint (held_one held))) (one_held_hold E (λ held. held) (λ held. None) held_one (λ held. refl) (same_call g) dedup_by_plan (dedup_by_plan_buffers E) m l.hold) (same_takes g)
+lawful_dedup_by {E = E} {m = m} g l = lawful_rule (lawful_bounded l) (dedup_by_rule g) (is_stage_dedup_by (same_call g)) (closure_stays (same_takes g) dedup_by_plan) (one_held_hold E (λ held. held) (λ held. None) held_one (λ held. refl) (same_call g) dedup_by_plan (dedup_by_plan_buffers E) m l.hold)
 
 -- ---- The contract of `DedupByKey` is lawful where the source's is
 
@@ -94,7 +93,7 @@ pub is_stage_dedup_key : {F A K E : Type 0} (eq : K → K → Bool) (call : F �
 is_stage_dedup_key {E = E} eq call = is_stage_buffering held_one call (dedup_key_plan eq) dedup_key_stops (dedup_key_plan_buffers E eq) (dedup_key_stops_weighs E)
 
 pub lawful_dedup_by_key : {S A K F E : Type 0} {m : Contract S A E} (eq : K → K → Bool) (g : Mut F (Bor A × Unit {0}) (Result K E)) → Lawful m → Lawful (dedup_by_key_contract eq g m)
-lawful_dedup_by_key {E = E} {m = m} eq g l = lawful_closure (lawful_bounded l) stop_comes (call_by_reference g) (dedup_key_plan eq) dedup_key_stops 1 held_one (held_hint_plan held_one) (is_stage_dedup_key eq (call_by_reference g)) (held_sound m (λ held. held_hint (held_one held))) (one_held_hold E keyed_item (λ held. None) held_one held_one_of_keyed (call_by_reference g) (dedup_key_plan eq) (dedup_key_plan_buffers E eq) m l.hold) (takes_by_reference g)
+lawful_dedup_by_key {E = E} {m = m} eq g l = lawful_rule (lawful_bounded l) (dedup_by_key_rule eq g) (is_stage_dedup_key eq (call_by_reference g)) (closure_stays (takes_by_reference g) (dedup_key_plan eq {E = E})) (one_held_hold E keyed_item (λ held. None) held_one held_one_of_keyed (call_by_reference g) (dedup_key_plan eq) (dedup_key_plan_buffers E eq) m l.hold)
 
 -- ---- The contracts of `DedupWithCount` and `DedupByWithCount` are lawful where the source's is
 
@@ -114,11 +113,11 @@ module _ {A : Type 0} (E : Type 0) where
 pub is_stage_count : {F A E : Type 0} (call : F → A × A → Result Bool E → F → Type 0) → IsStage stop_comes (plan_meets call count_plan count_stops) 1 (λ p. held_one p.0)
 is_stage_count {E = E} call = is_stage_buffering held_one call count_plan count_stops (count_buffers E) (count_stop_weighs E)
 
-counted_hold : {S F A E : Type 0} {m : Contract S A E} (call : F → A × A → Result Bool E → F → Type 0) → Lawful m → HintsHold (λ p r q. stage_step stop_comes (plan_meets call count_plan count_stops) m.steps p r q) (plan_hint m (held_hint_plan held_one)) (held_sound m (λ held. held_hint (held_one held)))
+counted_hold : {S F A E : Type 0} {m : Contract S A E} (call : F → A × A → Result Bool E → F → Type 0) → Lawful m → HintHolds m (buffering {F = F} {E = E} call (count_plan {A = A}) count_stops held_one (λ held. held_hint (held_one held)))
 counted_hold {E = E} {m = m} call l = one_held_hold E (λ held. held) (λ held. None) held_one (λ held. refl) call count_plan (count_buffers E) m l.hold
 
 pub lawful_dedup_with_count : {S A E : Type 0} {m : Contract S A E} (eq : A → A → Bool) → Lawful m → Lawful (dedup_with_count_contract eq m)
-lawful_dedup_with_count {m = m} eq l = lawful_plan (lawful_bounded l) stop_comes (calls_function (are_equal eq)) count_plan count_stops 1 held_one (held_hint_plan held_one) (is_stage_count (calls_function (are_equal eq))) (held_sound m (λ held. held_hint (held_one held))) (counted_hold (calls_function (are_equal eq)) l)
+lawful_dedup_with_count {m = m} eq l = lawful_rule (lawful_bounded l) (dedup_with_count_rule eq) (is_stage_count (calls_function (are_equal eq))) (λ Q R p q weak reached c. tt) (counted_hold (calls_function (are_equal eq)) l)
 
 pub lawful_dedup_by_with_count : {S A F E : Type 0} {m : Contract S A E} (g : Mut F (Bor A × (Bor A × Unit {0})) (Result Bool E)) → Lawful m → Lawful (dedup_by_with_count_contract g m)
-lawful_dedup_by_with_count {m = m} g l = lawful_closure (lawful_bounded l) stop_comes (same_call g) count_plan count_stops 1 held_one (held_hint_plan held_one) (is_stage_count (same_call g)) (held_sound m (λ held. held_hint (held_one held))) (counted_hold (same_call g) l) (same_takes g)
+lawful_dedup_by_with_count {m = m} g l = lawful_rule (lawful_bounded l) (dedup_by_with_count_rule g) (is_stage_count (same_call g)) (closure_stays (same_takes g) count_plan) (counted_hold (same_call g) l)

@@ -5,9 +5,9 @@ use Rattle.std.proofs.Common.{arith, inr}
 use Rattle.fallible_iterator.specs.Contract.{Contract, Lawful}
 use Rattle.fallible_iterator.specs.Sources.FromFn.{call_of_none}
 use Rattle.fallible_iterator.specs.Sound.{HintsHold, as_made}
-use Rattle.fallible_itertools_adapters.specs.Intersperse.{intersperse_contract, intersperse_hint_plan, intersperse_plan, separated_by, separator_cloned, fitting, interspersed_high, interspersed_items, unparted, intersperse_hint, intersperse_with_contract, takes_none}
-use Rattle.fallible_itertools_adapters.specs.Laws.Staging.{Always, DueFew, EmittedFew, ItemWeighs, PlanMakes, is_stage_plan, lawful_closure, lawful_plan, makes_at_most_plan, makes_no_fewer_plan, passes_at_most, passes_weighs, plan_hold}
-use Rattle.fallible_itertools_adapters.specs.Staging.{none_held, passes, plan_meets, plan_hint, IsStage, item_comes, due_total, emitted_total, items_of, stage_step}
+use Rattle.fallible_itertools_adapters.specs.Intersperse.{intersperse_contract, intersperse_hint_plan, intersperse_plan, intersperse_rule, intersperse_with_rule, separated_by, separator_cloned, fitting, interspersed_high, interspersed_items, unparted, intersperse_hint, intersperse_with_contract, takes_none}
+use Rattle.fallible_itertools_adapters.specs.Laws.Staging.{Always, DueFew, EmittedFew, ItemWeighs, PlanMakes, closure_stays, is_stage_plan, lawful_rule, makes_at_most_plan, makes_no_fewer_plan, passes_at_most, passes_weighs, plan_hold, plan_hint}
+use Rattle.fallible_itertools_adapters.specs.Staging.{none_held, passes, plan_meets, IsStage, item_comes, due_total, emitted_total, items_of, stage_step}
 use Rattle.std.specs.declared.alloc.AllocError.{AllocError}
 
 module _ {A : Type 0} (E : Type 0) where
@@ -85,7 +85,7 @@ module _ (A E : Type 0) where
         record { above = λ p h is a. made.above p h is (λ unstopped. a); below = λ p h is b. made.below p h is (λ unstopped. b) }
 
 pub lawful_intersperse : {S A E : Type 0} (is_clone : A → A → Type 0) (is_infallible : A → Type 0) (from : AllocError → E → Type 0) {m : Contract S A E} → Lawful m → Lawful (intersperse_contract is_clone is_infallible from m)
-lawful_intersperse {A = A} {E = E} is_clone is_infallible from {m = m} l = let call = separator_cloned is_clone is_infallible from in lawful_plan l item_comes call intersperse_plan passes 2 none_held intersperse_hint_plan (is_stage_intersperse call) (as_made (λ p. p.0) m.hints m.sound (λ p. intersperse_hint p.1.0.0 p.1.1)) (intersperse_hold A E call m l.hold)
+lawful_intersperse {A = A} {E = E} is_clone is_infallible from {m = m} l = let call = separator_cloned is_clone is_infallible from in lawful_rule l (intersperse_rule call) (is_stage_intersperse call) (λ Q R p q weak reached c. tt) (intersperse_hold A E call m l.hold)
 
 pub lawful_intersperse_with : {S F A E : Type 0} (g : Mut F (Unit {0}) (Result A E)) {m : Contract S A E} → Lawful m → Lawful (intersperse_with_contract g m)
-lawful_intersperse_with {A = A} {E = E} g {m = m} l = lawful_closure l item_comes (call_of_none g) intersperse_plan passes 2 none_held intersperse_hint_plan (is_stage_intersperse (call_of_none g)) (as_made (λ p. p.0) m.hints m.sound (λ p. intersperse_hint p.1.0.0 p.1.1)) (intersperse_hold A E (call_of_none g) m l.hold) (takes_none g)
+lawful_intersperse_with {A = A} {E = E} g {m = m} l = lawful_rule l (intersperse_with_rule g) (is_stage_intersperse (call_of_none g)) (closure_stays (takes_none g) intersperse_plan) (intersperse_hold A E (call_of_none g) m l.hold)

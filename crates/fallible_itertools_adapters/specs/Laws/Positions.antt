@@ -5,15 +5,14 @@ use Rattle.std.proofs.Common.{refl, arith}
 use Rattle.fallible_iterator.specs.Closures.{IsCallable}
 use Rattle.fallible_iterator.specs.Contract.{Contract, Lawful}
 use Rattle.fallible_iterator.specs.Hints.{fitting_sum, upper_alone}
-use Rattle.fallible_iterator.specs.Sound.{HintsHold}
 use Rattle.fallible_iterator.specs.Laws.Closures.{is_callable_after}
 use Rattle.fallible_iterator.specs.Laws.Contract.{lawful_with_sound}
 use Rattle.fallible_iterator.specs.Laws.Hints.Joining.{if_some_fitting_sum_at_least_both}
 use Rattle.fallible_iterator.specs.Laws.Hints.Passing.{upper_alone_hold}
 use Rattle.fallible_iterator.specs.Laws.Passing.{lawful_leaving_out}
-use Rattle.fallible_itertools_adapters.specs.Positions.{item_call, item_takes, positions_contract, positions_outcome, position_hint_plan, position_plan, position_stops, positioned_last, with_position_contract, position_hint}
-use Rattle.fallible_itertools_adapters.specs.Staging.{held_one, held_sound, calls_nothing, plan_meets, plan_hint, IsStage, stop_comes, EndsInStop, emitted_total, items_of, stage_step}
-use Rattle.fallible_itertools_adapters.specs.Laws.Staging.{Always, EmittedFew, ItemBuffers, PlanMakes, StopWeighs, before_stop_weighs, held_hold, is_stage_buffering, lawful_plan}
+use Rattle.fallible_itertools_adapters.specs.Positions.{item_call, item_takes, positions_contract, positions_outcome, position_plan, position_stops, positioned_last, with_position_contract, position_rule}
+use Rattle.fallible_itertools_adapters.specs.Staging.{held_one, calls_nothing, plan_meets, IsStage, stop_comes, EndsInStop, emitted_total, items_of}
+use Rattle.fallible_itertools_adapters.specs.Laws.Staging.{Always, EmittedFew, ItemBuffers, PlanMakes, StopWeighs, before_stop_weighs, held_hold, is_stage_buffering, HintHolds, lawful_rule}
 
 -- ---- The contract of `Positions` is lawful where the source's is
 
@@ -69,9 +68,9 @@ module _ (A E : Type 0) where
     no_fewer_at_failure = position_no_fewer_at_failure;
   }
 
-position_hold : {S A E : Type 0} {m : Contract S A E} → Lawful m → HintsHold (λ p r q. stage_step stop_comes (plan_meets (calls_nothing {F = Unit {0}}) (position_plan {A = A}) position_stops) m.steps p r q) (plan_hint m position_hint_plan) (held_sound m position_hint)
+position_hold : {S A E : Type 0} {m : Contract S A E} → Lawful m → HintHolds m position_rule
 position_hold {A = A} {E = E} {m = m} l = held_hold calls_nothing position_plan position_stops (λ held n. n + held_one held) (λ held low n. low + held_one held ≤ n) (λ held n. min (n + held_one held) (2 ^ 64 - 1)) (λ held o. fitting_sum o (Some (held_one held)))
     (λ held o n le. if_some_fitting_sum_at_least_both o (Some (held_one held)) n (held_one held) (n + held_one held) (omega arith) le (omega arith)) (λ held n k few. omega (arith, few)) (position_makes A E) m l.hold
 
 pub lawful_with_position : {S A E : Type 0} {m : Contract S A E} → Lawful m → Lawful (with_position_contract m)
-lawful_with_position {m = m} l = lawful_plan l stop_comes calls_nothing position_plan position_stops 1 held_one position_hint_plan is_stage_position (held_sound m position_hint) (position_hold l)
+lawful_with_position {m = m} l = lawful_rule l position_rule is_stage_position (λ Q R p q weak reached c. tt) (position_hold l)

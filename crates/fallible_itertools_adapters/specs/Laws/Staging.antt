@@ -4,7 +4,7 @@ use Rattle.std.specs.Iterator.{IsFinite, size}
 use Rattle.std.specs.List.{FoldsTo}
 use Rattle.std.proofs.Common.{refl, sym, subst, ap, arith, inl, inr, ◌∙◌}
 use Rattle.std.proofs.lemmas.Nat.{mul-le}
-use Rattle.fallible_iterator.specs.Closures.{Reaches, MayAnswer}
+use Rattle.fallible_iterator.specs.Closures.{IsCallable, Reaches, MayAnswer}
 use Rattle.fallible_iterator.specs.Contract.{Contract, OnAnswer, KeptByDraw, KeptByDraws, Lawful}
 use Rattle.fallible_iterator.specs.Hints.{fitting_sum}
 use Rattle.fallible_iterator.specs.Passing.{IfItem}
@@ -15,7 +15,7 @@ use Rattle.fallible_iterator.specs.Laws.Contract.{kept_by_draws_of_one_draw, kep
 use Rattle.fallible_iterator.specs.Laws.Hints.Drawn.{brackets_any_lower_where_no_end, brackets_zero_where_no_item, if_some_at_least_of_smaller}
 use Rattle.fallible_iterator.specs.Laws.Hints.Joining.{if_some_fitting_sum_at_least_both}
 use Rattle.fallible_iterator.specs.Laws.LawForm.{IsTraced}
-use Rattle.fallible_itertools_adapters.specs.Staging.{DrawsUpTo, Emits, Emitted, StagedTrace, due_comes, due_left, emits_due, emits_later, emits_first, emits_nothing, passes_over, stage_step, yields, items_of, stays_of, due_total, emitted_total, IsStage, IsDue, IsEmitted, MayMeet, MayCome, stage_contract, EndsInStop, IsStop, stop_comes, before_stop, held_one, Follows, HintPlan, IsTransition, Transition, Plan, bounded, calls, closure_contract, makes, passes, plan_can, plan_contract, plan_hint, plan_meets, plan_takes, HintBy, held_hint_plan, hint_unless_end, held_hint, held_sound, stop_answer}
+use Rattle.fallible_itertools_adapters.specs.Staging.{DrawsUpTo, Emits, Emitted, StagedTrace, due_comes, due_left, emits_due, emits_later, emits_first, emits_nothing, passes_over, stage_step, yields, items_of, stays_of, due_total, emitted_total, IsStage, IsDue, IsEmitted, MayMeet, MayCome, EndsInStop, IsStop, stop_comes, before_stop, held_one, Follows, HintPlan, IsTransition, Transition, Plan, bounded, calls, makes, passes, Rule, rule_contract, rule_meets, plan_meets, plan_takes, HintBy, hint_unless_end, held_hint, stop_answer}
 
 -- ---- The runs of a stage are its traces: one law of all stages, over what the source's law says
 
@@ -96,22 +96,30 @@ module _ {L B E : Type 0} (comes : L → Option (Answered B E)) where
   is_due_before_where_due_left later r (Some a) d = absurd d
   is_due_before_where_due_left later r None d = d
 
-module _ {S P X D B L E : Type 0} {m : Contract S X D} (l : Lawful m) (comes : L → Option (Answered B E)) (meets : P → Answered X D → Emitted B L E → P → Type 0) (can : (Answered X D → Type 0) → P → Type 0) (most : ℕ) (held : P → ℕ) (hints : S × (P × Option L) → ℕ × Option ℕ → Type 0) (sound : SoundWhere (S × (P × Option L))) (w : IsStage comes meets most held) (stays : (Q R : Answered X D → Type 0) (p q : P) → ((a : Answered X D) → R a → Q a) → Reaches meets Q p q → can Q p → can R q) where
+-- The hint of a stage is sound where its rule says so.
+abbrev pub HintHolds : {S P X B L E : Type 0} → Contract S X E → Rule P X B L E → Type 0
+HintHolds {S = S} m rule = HintsHold (λ p r q. stage_step rule.comes (rule_meets rule) m.steps p r q) (λ p h. HintBy m p.0 (rule.hint p.1.0 p.1.1) h) (rule.sound S m)
+
+-- What may be called stays so, on fewer answers, in each state that these bring it to.
+abbrev pub CanStays : {P X B L E : Type 0} → Rule P X B L E → Type 1
+CanStays {P = P} {X = X} {E = E} rule = (Q R : Answered X E → Type 0) (p q : P) → ((a : Answered X E) → R a → Q a) → Reaches (rule_meets rule) Q p q → rule.can Q p → rule.can R q
+
+module _ {S P X B L E : Type 0} {m : Contract S X E} (l : Lawful m) (rule : Rule P X B L E) (w : IsStage rule.comes (rule_meets rule) rule.most rule.held) (stays : CanStays rule) where
   abbrev StageState : Type 0
   StageState = S × (P × Option L)
 
   abbrev StageContract : Contract StageState B E
-  StageContract = stage_contract m comes meets can most held hints sound
+  StageContract = rule_contract m rule
 
   -- Of each bound, with what is held, i less are left, and of what remains j less.
   record Spends (i j : ℕ) (s : S) (p : P) (t : S) (q : P) : Type 0 where
-    bound : (n : ℕ) → m.bound s n → (k : ℕ) × m.bound t k × (most * k + held q + i ≤ most * n + held p)
-    remaining : IsFinite (m.remaining s) → IsFinite (m.remaining t) × (most * size (m.remaining t) + held q + j ≤ most * size (m.remaining s) + held p)
+    bound : (n : ℕ) → m.bound s n → (k : ℕ) × m.bound t k × (rule.most * k + rule.held q + i ≤ rule.most * n + rule.held p)
+    remaining : IsFinite (m.remaining s) → IsFinite (m.remaining t) × (rule.most * size (m.remaining t) + rule.held q + j ≤ rule.most * size (m.remaining s) + rule.held p)
 
-  spends_emitted_total_where_met : (s t : S) (p q : P) (a : Answered X D) (emitted : Emitted B L E) → OnAnswer m s a t → meets p a emitted q → Spends (emitted_total comes items_of emitted) (emitted_total comes stays_of emitted) s p t q
+  spends_emitted_total_where_met : (s t : S) (p q : P) (a : Answered X E) (emitted : Emitted B L E) → OnAnswer m s a t → (rule_meets rule) p a emitted q → Spends (emitted_total rule.comes items_of emitted) (emitted_total rule.comes stays_of emitted) s p t q
   spends_emitted_total_where_met s t p q a emitted h called = record {
-    bound = λ n b. let k = bound_after m s t a h n b in (k.0, k.1, omega (arith, scaled_parts_within_scaled_whole most k.0 (items_of a) n k.2, (w p a emitted q called).0));
-    remaining = λ f. let k = remaining_finite_and_fewer_after_answer m s t a h f in (k.0, omega (arith, scaled_parts_within_scaled_whole most (size (m.remaining t)) (stays_of a) (size (m.remaining s)) k.1, (w p a emitted q called).1));
+    bound = λ n b. let k = bound_after m s t a h n b in (k.0, k.1, omega (arith, scaled_parts_within_scaled_whole rule.most k.0 (items_of a) n k.2, (w p a emitted q called).0));
+    remaining = λ f. let k = remaining_finite_and_fewer_after_answer m s t a h f in (k.0, omega (arith, scaled_parts_within_scaled_whole rule.most (size (m.remaining t)) (stays_of a) (size (m.remaining s)) k.1, (w p a emitted q called).1));
   }
 
   spends_transitive : (i j : ℕ) (s u t : S) (p h q : P) → Spends 0 0 s p u h → Spends i j u h t q → Spends i j s p t q
@@ -124,11 +132,11 @@ module _ {S P X D B L E : Type 0} {m : Contract S X D} (l : Lawful m) (comes : L
 
   record Came (s : S) (p : P) (r : Answered B E) (t : S) (q : P × Option L) : Type 0 where
     kept : KeptByDraws m s t
-    reached : Reaches meets (MayMeet m s) p q.0
-    spends : Spends (items_of r + due_total comes items_of q.1) (stays_of r + due_total comes stays_of q.1) s p t q.0
-    may : (z : Answered B E) → IsEmitted comes z (Some (r, q.1)) → MayAnswer meets (MayMeet m s) p (λ a emitted. IsEmitted comes z emitted)
+    reached : Reaches (rule_meets rule) (MayMeet m s) p q.0
+    spends : Spends (items_of r + due_total rule.comes items_of q.1) (stays_of r + due_total rule.comes stays_of q.1) s p t q.0
+    may : (z : Answered B E) → IsEmitted rule.comes z (Some (r, q.1)) → MayAnswer (rule_meets rule) (MayMeet m s) p (λ a emitted. IsEmitted rule.comes z emitted)
 
-  came_of_draws : (s t : S) (p : P) (r : Answered B E) (q : P × Option L) → m.can_next s → DrawsUpTo comes meets m.steps s p r t q → Came s p r t q
+  came_of_draws : (s t : S) (p : P) (r : Answered B E) (q : P × Option L) → m.can_next s → DrawsUpTo rule.comes (rule_meets rule) m.steps s p r t q → Came s p r t q
   came_of_draws s t p r _ c (yields {q = q} {due = due} a step called) = let g = l.kept_by_draw s a t c step in let may = may_meet_of_answer m s t a g.answer in record {
     kept = kept_by_draws_of_one_draw g;
     reached = reaches_by_call_first a (Some (r, due)) may called reaches_reflexive;
@@ -149,7 +157,7 @@ module _ {S P X D B L E : Type 0} {m : Contract S X D} (l : Lawful m) (comes : L
     bound : (n : ℕ) → StageContract.bound p n → (k : ℕ) × StageContract.bound q k × (k + items_of r ≤ n)
     remaining : IsFinite (StageContract.remaining p) → IsFinite (StageContract.remaining q) × (size (StageContract.remaining q) + stays_of r ≤ size (StageContract.remaining p))
 
-  on_answer_where_leaves : (p q : StageState) (r : Answered B E) → MayCome m comes meets p r → Leaves p r q → OnAnswer StageContract p r q
+  on_answer_where_leaves : (p q : StageState) (r : Answered B E) → MayCome m rule.comes (rule_meets rule) p r → Leaves p r q → OnAnswer StageContract p r q
   on_answer_where_leaves p q (Ok (Some y)) may k = (may, (λ n b. let e = k.bound n b in (e.0, e.1, omega (arith, e.2))), (λ f. let e = k.remaining f in (e.0, omega (arith, e.1))))
   on_answer_where_leaves p q (Ok None) may k = ((λ n b. let e = k.bound n b in (e.0, e.1, omega (arith, e.2))), (λ f. let e = k.remaining f in (e.0, omega (arith, e.1))))
   on_answer_where_leaves p q (Err e) may k = (may, (λ n b. let e = k.bound n b in (e.0, e.1, omega (arith, e.2))), (λ f. let e = k.remaining f in (e.0, omega (arith, e.1))))
@@ -159,7 +167,7 @@ module _ {S P X D B L E : Type 0} {m : Contract S X D} (l : Lawful m) (comes : L
     can_next = (k.kept.can_next, stays (MayMeet m s) (MayMeet m t) p q.0 (may_meet_before_draws m s t k.kept) k.reached c.1);
     is_finite = k.kept.is_finite;
     answer = on_answer_where_leaves (s, (p, None)) (t, q) r (inr (k.may r (inl refl))) (record {
-      bound = λ n b. let e = k.spends.bound b.0 b.1 in (most * e.0 + held q.0 + due_total comes items_of q.1, (e.0, e.1, omega arith), omega (arith, e.2, b.2));
+      bound = λ n b. let e = k.spends.bound b.0 b.1 in (rule.most * e.0 + rule.held q.0 + due_total rule.comes items_of q.1, (e.0, e.1, omega arith), omega (arith, e.2, b.2));
       remaining = λ f. let e = k.spends.remaining f in (e.0, omega (arith, e.1));
     });
     may_give = λ y h. may_come_before_where_may_come_after (item y) h;
@@ -167,19 +175,19 @@ module _ {S P X D B L E : Type 0} {m : Contract S X D} (l : Lawful m) (comes : L
     lenders = k.kept.lenders;
   }
     where
-      may_come_before_where_may_come_after : (z : Answered B E) → MayCome m comes meets (t, q) z → MayCome m comes meets (s, (p, None)) z
+      may_come_before_where_may_come_after : (z : Answered B E) → MayCome m rule.comes (rule_meets rule) (t, q) z → MayCome m rule.comes (rule_meets rule) (s, (p, None)) z
       may_come_before_where_may_come_after z h = inr (elim h [ inl d ↦ k.may z (inr d) | inr d ↦ may_answer_where_reached_may_answer (may_meet_before_draws m s t k.kept) k.reached d ])
 
-  kept_by_draw_due : (s : S) (p : P) (later : L) → StageContract.can_next (s, (p, Some later)) → KeptByDraw StageContract (s, (p, Some later)) (due_comes (comes later)) (s, (p, due_left later (comes later)))
-  kept_by_draw_due s p later c = let none = due_total_of_due_left_is_zero comes later (comes later) refl in record {
+  kept_by_draw_due : (s : S) (p : P) (later : L) → StageContract.can_next (s, (p, Some later)) → KeptByDraw StageContract (s, (p, Some later)) (due_comes (rule.comes later)) (s, (p, due_left later (rule.comes later)))
+  kept_by_draw_due s p later c = let none = due_total_of_due_left_is_zero rule.comes later (rule.comes later) refl in record {
     can_next = c;
     is_finite = λ e. e;
-    answer = on_answer_where_leaves (s, (p, Some later)) (s, (p, due_left later (comes later))) (due_comes (comes later)) (inl refl) (record {
-      bound = λ n b. (most * b.0 + held p, (b.0, b.1, omega (arith, none.0)), omega (arith, b.2));
+    answer = on_answer_where_leaves (s, (p, Some later)) (s, (p, due_left later (rule.comes later))) (due_comes (rule.comes later)) (inl refl) (record {
+      bound = λ n b. (rule.most * b.0 + rule.held p, (b.0, b.1, omega (arith, none.0)), omega (arith, b.2));
       remaining = λ f. (f, omega (arith, none.1));
     });
-    may_give = λ y h. elim h [ inl d ↦ inl (is_due_before_where_due_left comes later (item y) (comes later) d) | inr d ↦ inr d ];
-    may_fail = λ e h. elim h [ inl d ↦ inl (is_due_before_where_due_left comes later (failure e) (comes later) d) | inr d ↦ inr d ];
+    may_give = λ y h. elim h [ inl d ↦ inl (is_due_before_where_due_left rule.comes later (item y) (rule.comes later) d) | inr d ↦ inr d ];
+    may_fail = λ e h. elim h [ inl d ↦ inl (is_due_before_where_due_left rule.comes later (failure e) (rule.comes later) d) | inr d ↦ inr d ];
     lenders = refl;
   }
 
@@ -187,11 +195,11 @@ module _ {S P X D B L E : Type 0} {m : Contract S X D} (l : Lawful m) (comes : L
   kept_by_draw_stage (s, (p, None)) r (t, q) c step = kept_by_draw_drawn s t p r q c (came_of_draws s t p r q c.0 step)
   kept_by_draw_stage (s, (p, Some later)) r (t, q) c step = rw (step.0, step.1, step.2) (kept_by_draw_due s p later c)
 
-  pub lawful_stage : HintsHold StageContract.steps hints sound → Lawful (stage_contract m comes meets can most held hints sound)
-  lawful_stage holds = record {
+  pub lawful_rule : HintHolds m rule → Lawful (rule_contract m rule)
+  lawful_rule holds = record {
     kept_by_draw = kept_by_draw_stage;
-    bounded = λ p. ((λ e. let k = (l.bounded p.0).0 e in (most * k.0 + held p.1.0 + due_total comes items_of p.1.1, (k.0, k.1, omega arith))), (λ h. (l.bounded p.0).1 ((h.1).0, (h.1).1)));
-    traced = stage_traced comes meets m.steps l.traced;
+    bounded = λ p. ((λ e. let k = (l.bounded p.0).0 e in (rule.most * k.0 + rule.held p.1.0 + due_total rule.comes items_of p.1.1, (k.0, k.1, omega arith))), (λ h. (l.bounded p.0).1 ((h.1).0, (h.1).1)));
+    traced = stage_traced rule.comes (rule_meets rule) m.steps l.traced;
     hold = holds;
   }
 
@@ -442,12 +450,17 @@ lawful_bounded {m = m} l = record {
   hold = l.hold;
 }
 
-module _ {S H F Q R X B L E : Type 0} {m : Contract S X E} (l : Lawful m) (comes : L → Option (Answered B E)) (call : F → Q → R → F → Type 0) (plan : H → X → Plan Q R (Transition H B L E)) (stops : H → Option E → Transition H B L E) (most : ℕ) (held : H → ℕ) (hint : H → Option L → HintPlan) (is : IsStage comes (plan_meets call plan stops) most (λ (p : H × F). held p.0)) (sound : SoundWhere (S × ((H × F) × Option L))) (holds : HintsHold (λ p r q. stage_step comes (plan_meets call plan stops) m.steps p r q) (plan_hint m hint) sound) where
-  pub lawful_plan : Lawful (plan_contract m comes call plan stops most held hint sound)
-  lawful_plan = lawful_stage l comes (plan_meets call plan stops) (λ P p. ⊤) most (λ p. held p.0) (plan_hint m hint) sound is (λ P K p q weak reached c. tt) holds
+-- where a closure may be called, it stays so
+pub closure_stays : {H F Q R T V X E : Type 0} (takes : F → Q → Type 0) (plan : H → X → Plan Q R T) {meets : H × F → Answered X E → V → H × F → Type 0} (P K : Answered X E → Type 0) (p q : H × F) → ((a : Answered X E) → K a → P a) → Reaches meets P p q → IsCallable meets (λ r a. IfItem (plan_takes takes plan r) a) P p → IsCallable meets (λ r a. IfItem (plan_takes takes plan r) a) K q
+closure_stays takes plan P K p q weak reached c = is_callable_after {pre = λ r a. IfItem (plan_takes takes plan r) a} weak reached c
 
-  pub lawful_closure : (takes : F → Q → Type 0) → Lawful (closure_contract m comes call takes plan stops most held hint sound)
-  lawful_closure takes = lawful_stage l comes (plan_meets call plan stops) (plan_can call plan stops takes) most (λ p. held p.0) (plan_hint m hint) sound is (λ P K p q weak reached c. is_callable_after {pre = λ r a. IfItem (plan_takes takes plan r) a} weak reached c) holds
+-- the hint by a plan, by what is held and what is due
+abbrev pub plan_hint : {S H F L X E : Type 0} → Contract S X E → (H → Option L → HintPlan) → S × ((H × F) × Option L) → ℕ × Option ℕ → Type 0
+plan_hint m hint p h = HintBy m p.0 (hint p.1.0.0 p.1.1) h
+
+-- a hint is sound once a stop is due, and before wherever the hint of the source is that it is made of
+abbrev pub held_sound : {S H F X E : Type 0} → Contract S X E → (H → ℕ × Option ℕ → ℕ × Option ℕ) → SoundWhere (S × ((H × F) × Option (Option E)))
+held_sound m made = sound_once (λ p. IsSome p.1.1) (as_made (λ p. p.0) m.hints m.sound (λ p. made p.1.0.0))
 
 -- ---- Why the hints of an adapter by functions are sound where it says so, by how many answers each plan emits
 
@@ -603,5 +616,5 @@ module _ {H B : Type 0} (E : Type 0) (kept : H → Option B) (empty : H → H) (
       no_fewer_at_failure = λ h e low. few_at_failure (kept h) e _ _;
     }
 
-    pub one_held_hold : {S : Type 0} (m : Contract S X E) → HintsHold m.steps m.hints m.sound → HintsHold (λ p r q. stage_step stop_comes (plan_meets call plan (λ h stop. (before_stop (kept h) stop, empty h))) m.steps p r q) (plan_hint m (held_hint_plan held)) (held_sound m (λ h. held_hint (held h)))
+    pub one_held_hold : {S : Type 0} (m : Contract S X E) → HintsHold m.steps m.hints m.sound → HintsHold (λ p r q. stage_step stop_comes (plan_meets call plan (λ h stop. (before_stop (kept h) stop, empty h))) m.steps p r q) (plan_hint m (λ h due. hint_unless_end (calls tt (held_hint (held h))) due)) (held_sound m (λ h. held_hint (held h)))
     one_held_hold m holds = held_hold call plan (λ h stop. (before_stop (kept h) stop, empty h)) (λ h n. n + held h) (λ h low n. min (low + held h) 1 ≤ n) (λ h n. min (n + held h) 1) (λ h o. fitting_sum o (Some (held h))) (λ h o n le. if_some_fitting_sum_at_least_both o (Some (held h)) n (held h) (n + held h) (omega arith) le (omega arith)) (λ h n k few. few) makes_held m holds

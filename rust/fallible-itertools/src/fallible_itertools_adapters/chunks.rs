@@ -3,8 +3,8 @@
 use crate::base::Turn;
 use crate::base::{alone, pushed};
 use crate::fallible_itertools_adapters::staging::{
-    AnswerAndDue, Emitted, Stage, Stop, drive_stage, emitted_of, let_go, next_until, one, put_due,
-    stop_answer, with_held,
+    AnswerAndDue, Emitted, Stage, Stop, drive_stage, emitted_of, hint_with_held, let_go,
+    next_until, one, put_due, stop_answer, with_held,
 };
 use alloc::vec::Vec;
 use fallible_iterator::FallibleIterator;
@@ -200,10 +200,7 @@ impl<I: FallibleIterator, K: PartialEq, F: FnMut(&I::Item) -> Result<K, I::Error
     }
 
     fn size_hint(&self) -> (usize, Option<usize>) {
-        match self.stage.1 {
-            Some(None) => (0, Some(0)),
-            _ => with_held(self.it.size_hint(), self.stage.0.0.is_some()),
-        }
+        hint_with_held(&self.it, &self.stage.1, &self.stage.0.0)
     }
 
     crate::base::by_drive!(drive);

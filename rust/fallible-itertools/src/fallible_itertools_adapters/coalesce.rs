@@ -2,8 +2,8 @@
 
 use crate::base::Turn;
 use crate::fallible_itertools_adapters::staging::{
-    AnswerAndDue, Emitted, Stage, Stop, drawn_until, drive_stage, let_go, next_until, one, put_due,
-    stop_answer, with_held,
+    AnswerAndDue, Emitted, Stage, Stop, drawn_until, drive_stage, hint_with_held, let_go,
+    next_until, one, put_due, stop_answer,
 };
 use fallible_iterator::FallibleIterator;
 
@@ -58,10 +58,7 @@ impl<
     }
 
     fn size_hint(&self) -> (usize, Option<usize>) {
-        match self.stage.1 {
-            Some(None) => (0, Some(0)),
-            _ => with_held(self.it.size_hint(), self.stage.0.0.is_some()),
-        }
+        hint_with_held(&self.it, &self.stage.1, &self.stage.0.0)
     }
 
     crate::base::by_drive!(drive);
@@ -172,10 +169,7 @@ where
     }
 
     fn size_hint(&self) -> (usize, Option<usize>) {
-        match self.stage.1 {
-            Some(None) => (0, Some(0)),
-            _ => with_held(self.it.size_hint(), self.stage.0.0.is_some()),
-        }
+        hint_with_held(&self.it, &self.stage.1, &self.stage.0.0)
     }
 
     crate::base::by_drive!(drive);
@@ -261,10 +255,7 @@ impl<I: FallibleIterator, F: FnMut(&I::Item, &I::Item) -> Result<bool, I::Error>
     }
 
     fn size_hint(&self) -> (usize, Option<usize>) {
-        match self.stage.1 {
-            Some(None) => (0, Some(0)),
-            _ => with_held(self.it.size_hint(), self.stage.0.0.is_some()),
-        }
+        hint_with_held(&self.it, &self.stage.1, &self.stage.0.0)
     }
 
     crate::base::by_drive!(drive);
@@ -362,10 +353,7 @@ impl<I: FallibleIterator, K: PartialEq, F: FnMut(&I::Item) -> Result<K, I::Error
     }
 
     fn size_hint(&self) -> (usize, Option<usize>) {
-        match self.stage.1 {
-            Some(None) => (0, Some(0)),
-            _ => with_held(self.it.size_hint(), self.stage.0.0.is_some()),
-        }
+        hint_with_held(&self.it, &self.stage.1, &self.stage.0.0)
     }
 
     crate::base::by_drive!(drive);
@@ -488,10 +476,7 @@ where
     }
 
     fn size_hint(&self) -> (usize, Option<usize>) {
-        match self.stage.1 {
-            Some(None) => (0, Some(0)),
-            _ => with_held(self.it.size_hint(), self.stage.0.0.is_some()),
-        }
+        hint_with_held(&self.it, &self.stage.1, &self.stage.0.0)
     }
 
     crate::base::by_drive!(drive);
@@ -587,10 +572,7 @@ impl<I: FallibleIterator, F: FnMut(&I::Item, &I::Item) -> Result<bool, I::Error>
     }
 
     fn size_hint(&self) -> (usize, Option<usize>) {
-        match self.stage.1 {
-            Some(None) => (0, Some(0)),
-            _ => with_held(self.it.size_hint(), self.stage.0.0.is_some()),
-        }
+        hint_with_held(&self.it, &self.stage.1, &self.stage.0.0)
     }
 
     crate::base::by_drive!(drive);

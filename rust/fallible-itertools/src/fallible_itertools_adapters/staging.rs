@@ -101,6 +101,28 @@ pub fn with_held(hint: (usize, Option<usize>), is_held: bool) -> (usize, Option<
     (low, high)
 }
 
+/// The hint of such an adapter: no item comes once an end is due, and otherwise it is `with_held` of the source's.
+///
+/// <details><summary>Contract</summary>
+///
+/// As it is proved, in [these words](crate::words):
+///
+/// ```text
+/// ensures { HintBy I.contract it.now
+///     (hint_unless_end (calls tt (held_hint (held_one held.now))) due.now) result }
+/// ```
+/// </details>
+pub fn hint_with_held<I: FallibleIterator, H>(
+    it: &I,
+    due: &Option<Stop<I::Error>>,
+    held: &Option<H>,
+) -> (usize, Option<usize>) {
+    match *due {
+        Some(None) => (0, Some(0)),
+        _ => with_held(it.size_hint(), held.is_some()),
+    }
+}
+
 /// What an adapter emits at each answer of its source. It holds a `P`; the source yields `X`.
 pub trait Stage<P, X, E> {
     /// What the adapter yields.
@@ -116,8 +138,8 @@ pub trait Stage<P, X, E> {
     /// As it is proved, in [these words](crate::words):
     ///
     /// ```text
-    /// requires { can_meet self.now p.old item }
-    /// ensures { items self.now p.old item result p.new }
+    /// requires { rule.takes p.old item }
+    /// ensures { rule.items p.old item result p.new }
     /// ```
     /// </details>
     fn on_item(&self, p: &mut P, item: X) -> Emitted<Self::Kept, Self::Due, E>;
@@ -129,7 +151,7 @@ pub trait Stage<P, X, E> {
     /// As it is proved, in [these words](crate::words):
     ///
     /// ```text
-    /// ensures { stops self.now p.old stop result p.new }
+    /// ensures { rule.stops p.old stop result p.new }
     /// ```
     /// </details>
     fn on_stop(&self, p: &mut P, stop: Stop<E>) -> Emitted<Self::Kept, Self::Due, E>;
@@ -141,7 +163,7 @@ pub trait Stage<P, X, E> {
     /// As it is proved, in [these words](crate::words):
     ///
     /// ```text
-    /// ensures { result ≡ (due_comes (comes self.now due), due_left due (comes self.now due)) }
+    /// ensures { result ≡ (due_comes (rule.comes due), due_left due (rule.comes due)) }
     /// ```
     /// </details>
     fn answer_due(&self, due: Self::Due) -> AnswerAndDue<Self::Kept, Self::Due, E>;
@@ -154,8 +176,8 @@ pub trait Stage<P, X, E> {
 /// As it is proved, in [these words](crate::words):
 ///
 /// ```text
-/// requires { IfItem (G.can_meet stage.now p.old) answer }
-/// ensures { stage_meets (G.items stage.now) (G.stops stage.now) p.old answer result p.new }
+/// requires { IfItem (G.rule.takes p.old) answer }
+/// ensures { rule_meets G.rule p.old answer result p.new }
 /// ```
 /// </details>
 #[inline(always)]
@@ -253,13 +275,10 @@ fn tell_emitted<P, X, E, G: Stage<P, X, E>, C, R, K: Turn<C, G::Kept, R>>(
 ///
 /// ```text
 /// requires can_next { I.contract.can_next it.old }
-/// requires takes { TakesAll I.contract (stage_meets (G.items adapter.now) (G.stops adapter.now))
-///     (G.can_meet adapter.now) it.old stage.old.0 }
-/// requires makes { PassesNoneOver (stage_meets (G.items adapter.now) (G.stops adapter.now))
-///     stage.old.0 }
-/// ensures { stage_step (G.comes adapter.now)
-///     (stage_meets (G.items adapter.now) (G.stops adapter.now)) I.contract.steps
-///     (it.old, stage.old) result (it.new, stage.new) }
+/// requires takes { TakesAll I.contract (rule_meets G.rule) G.rule.takes it.old stage.old.0 }
+/// requires makes { PassesNoneOver (rule_meets G.rule) stage.old.0 }
+/// ensures { stage_step G.rule.comes (rule_meets G.rule) I.contract.steps (it.old, stage.old)
+///     result (it.new, stage.new) }
 /// ```
 /// </details>
 pub fn next_stage<I: FallibleIterator, P, G: Stage<P, I::Item, I::Error>>(
@@ -292,11 +311,9 @@ pub fn next_stage<I: FallibleIterator, P, G: Stage<P, I::Item, I::Error>>(
 /// ```text
 /// requires can_next { I.contract.can_next it.old }
 /// requires finite { I.contract.is_finite it.old }
-/// requires takes { TakesAll I.contract (stage_meets (G.items adapter.now) (G.stops adapter.now))
-///     (G.can_meet adapter.now) it.old stage.old.0 }
-/// ensures { stage_step (G.comes adapter.now)
-///     (stage_meets (G.items adapter.now) (G.stops adapter.now)) I.contract.steps
-///     (it.old, stage.old) result (it.new, stage.new) }
+/// requires takes { TakesAll I.contract (rule_meets G.rule) G.rule.takes it.old stage.old.0 }
+/// ensures { stage_step G.rule.comes (rule_meets G.rule) I.contract.steps (it.old, stage.old)
+///     result (it.new, stage.new) }
 /// ```
 /// </details>
 pub fn next_until<I: FallibleIterator, P, G: Stage<P, I::Item, I::Error>>(
@@ -327,11 +344,9 @@ pub fn next_until<I: FallibleIterator, P, G: Stage<P, I::Item, I::Error>>(
 /// ```text
 /// requires can_next { I.contract.can_next it.old }
 /// requires finite { I.contract.is_finite it.old }
-/// requires takes { TakesAll I.contract (stage_meets (G.items adapter.now) (G.stops adapter.now))
-///     (G.can_meet adapter.now) it.old held.old }
-/// ensures { DrawsUpTo (G.comes adapter.now)
-///     (stage_meets (G.items adapter.now) (G.stops adapter.now)) I.contract.steps
-///     it.old held.old result.0 it.new (held.new, result.1) }
+/// requires takes { TakesAll I.contract (rule_meets G.rule) G.rule.takes it.old held.old }
+/// ensures { DrawsUpTo G.rule.comes (rule_meets G.rule) I.contract.steps it.old held.old result.0
+///     it.new (held.new, result.1) }
 /// ```
 /// </details>
 #[inline(always)]
@@ -386,13 +401,10 @@ impl<'a, 'b, P, X, E, C, R, G: Stage<P, X, E>, K: Turn<C, G::Kept, R>>
 /// ```text
 /// requires can_next { I.contract.can_next it.old }
 /// requires finite { I.contract.is_finite it.old }
-/// requires takes { TakesAll I.contract (stage_meets (G.items adapter.now) (G.stops adapter.now))
-///     (G.can_meet adapter.now) it.old stage.old.0 }
-/// requires callable { CallableDriving (stage_step (G.comes adapter.now)
-///     (stage_meets (G.items adapter.now) (G.stops adapter.now)) I.contract.steps)
-///     (K.turns turn.now) (K.can_turn turn.now) (it.old, stage.old) state.old }
-/// ensures { Driven (stage_step (G.comes adapter.now)
-///     (stage_meets (G.items adapter.now) (G.stops adapter.now)) I.contract.steps)
+/// requires takes { TakesAll I.contract (rule_meets G.rule) G.rule.takes it.old stage.old.0 }
+/// requires callable { CallableDriving (stage_step G.rule.comes (rule_meets G.rule)
+///     I.contract.steps) (K.turns turn.now) (K.can_turn turn.now) (it.old, stage.old) state.old }
+/// ensures { Driven (stage_step G.rule.comes (rule_meets G.rule) I.contract.steps)
 ///     (K.turns turn.now) (it.old, stage.old) state.old result (it.new, stage.new) state.new }
 /// ```
 /// </details>

@@ -1,5 +1,5 @@
 // changed: no allocator is passed
-// proved: 7a6d43d5
+// proved: 9a7b7af4
 fn on_item(&self, p: &mut (Option<(K, Vec<X>)>, F), item: X) -> Emitted<(K, Vec<X>), Stop<E>, E> {
     match (p.1)(&item) {
         Ok(key) => grouped(&mut p.0, key, item),

@@ -1,5 +1,5 @@
 // changed: no allocator is passed, and none refuses
-// proved: b3277ab8
+// proved: a8320248
 fn on_item(
     &self,
     p: &mut ((usize, Option<Vec<X>>), ()),
