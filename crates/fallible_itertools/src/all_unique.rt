@@ -19,14 +19,12 @@ impl<A: Eq + Hash + Drop> Turn<HashSet<A>, A, Option<AllocError>> for AllUniqueT
 
     ghost turns = { λ _ seen x r more. is_unique_turn A.eq seen x r more };
 
-    /// Looks the item up, and moves it into the set.
+    /// Moves the item into the set, or drops it where one equals it.
     #[inline(always)]
     fn turn(&self, state: &mut HashSet<A>, item: A) -> ControlFlow<Option<AllocError>, ()> {
-        if state.contains(&item) {
-            return ControlFlow::Break(None);
-        }
         match state.insert(item) {
-            Ok(_) => ControlFlow::Continue(()),
+            Ok(true) => ControlFlow::Continue(()),
+            Ok(false) => ControlFlow::Break(None),
             Err(refused) => ControlFlow::Break(Some(AllocError::from(refused))),
         }
     }

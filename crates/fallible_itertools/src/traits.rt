@@ -2602,7 +2602,7 @@ pub trait FallibleItertools: FallibleIterator {
 
     /// Yields the items in batches of n. A batch before an `Ok(None)` or a failure may have fewer.
     ///
-    /// Creating it draws nothing and allocates nothing. `next` draws until the batch has n items, or a stop comes: `Ok(None)` or a failure. A buffered batch is yielded first. The stop is what the next call returns, without a draw. A new batch has room for n items at once, or for 1024 if n is more.
+    /// Creating it draws nothing and allocates nothing. `next` draws until the batch has n items, or a stop comes: `Ok(None)` or a failure. A buffered batch is yielded first. The stop is what the next call returns, without a draw. The first batch, and one after a whole one, has room for n items at once, or for 1024 if n is more. One after a batch that a stop cut grows.
     ///
     /// It fails as the source does. After a failure and after `Ok(None)` the next call draws again.
     ///
@@ -2624,7 +2624,7 @@ pub trait FallibleItertools: FallibleIterator {
         Self::Item: Drop,
         Self::Error: Drop + From<AllocError>,
         requires { 0 < n }
-        ensures parts { chunks_parts result ≡ (self, (((n, None), tt), None)) }
+        ensures parts { chunks_parts result ≡ (self, (((n, None), true), None)) }
         ensures lists { (l : List (Result Self.Item Self.Error))
             → list.Lists Self.contract.steps self l
             → ListsMade (λ xs v. vec_items v ≡ xs)

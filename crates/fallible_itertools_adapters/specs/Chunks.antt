@@ -104,20 +104,20 @@ batches_hint h k = (div_ceil k.0 (max h.0 1), fitting_sum k.1 (Some (held_one h.
 -- ---- its contract and its trace
 
 module _ {A E : Type 0} (from : AllocError → E → Type 0) where
-  -- nothing but an allocation is called
-  abbrev pub puts : Unit {0} → Option (Vec A Global) × A → Put (Vec A Global) E → Unit {0} → Type 0
-  puts u q v w = Puts from q.0 q.1 v
+  -- Nothing but an allocation is called. What is true or false is whether the last batch was whole, by which no item goes: the next one takes room by it.
+  abbrev pub puts : Bool → Option (Vec A Global) × A → Put (Vec A Global) E → Bool → Type 0
+  puts whole q v next = Puts from q.0 q.1 v
 
   -- its rule
-  abbrev pub chunks_rule : Rule ((ℕ × Option (Vec A Global)) × Unit {0}) A (Vec A Global) (Option E) E
+  abbrev pub chunks_rule : Rule ((ℕ × Option (Vec A Global)) × Bool) A (Vec A Global) (Option E) E
   chunks_rule = buffering puts (chunks_plan vec_count) chunks_stops batch_held batches_hint
 
-  -- `Chunks`: the items in batches, each where its last item stands or a stop. A failed allocation is a stop. The parts are the source, beside n the batch that is held, and the stop that is due.
-  abbrev pub ChunksTrace : {S : Type 0} → (S → List (Answered A E) → S → Type 0) → S × (((ℕ × Option (Vec A Global)) × Unit {0}) × Option (Option E)) → List (Answered (Vec A Global) E) → S × (((ℕ × Option (Vec A Global)) × Unit {0}) × Option (Option E)) → Type 0
+  -- `Chunks`: the items in batches, each where its last item stands or a stop. A failed allocation is a stop. The parts are the source, beside n the batch that is held, whether the last one was whole, and the stop that is due.
+  abbrev pub ChunksTrace : {S : Type 0} → (S → List (Answered A E) → S → Type 0) → S × (((ℕ × Option (Vec A Global)) × Bool) × Option (Option E)) → List (Answered (Vec A Global) E) → S × (((ℕ × Option (Vec A Global)) × Bool) × Option (Option E)) → Type 0
   ChunksTrace traces p trace q = StagedTrace traces stop_comes (rule_meets chunks_rule) p trace q
 
   -- `Chunks`' contract. It requires no bound of the source: one draw leaves out fewer items than a batch has.
-  abbrev pub chunks_contract : {S : Type 0} → Contract S A E → Contract (S × (((ℕ × Option (Vec A Global)) × Unit {0}) × Option (Option E))) (Vec A Global) E
+  abbrev pub chunks_contract : {S : Type 0} → Contract S A E → Contract (S × (((ℕ × Option (Vec A Global)) × Bool) × Option (Option E))) (Vec A Global) E
   chunks_contract m = record (rule_contract m chunks_rule) { traces = ChunksTrace m.traces }
 
 -- ---- what it lists
@@ -144,8 +144,8 @@ BatchesOf n (b ∷ c ∷ bs) = (length b ≡ n) × BatchesOf n (c ∷ bs)
 
 -- ---- its parts
 
--- the source, beside the size the batch that is held, and the stop that is due
-abbrev pub chunks_parts : {I A E : Type 0} → Chunks I A E → I × (((ℕ × Option (Vec A Global)) × Unit {0}) × Option (Option E))
+-- the source, beside the size the batch that is held, whether the last one was whole, and the stop that is due
+abbrev pub chunks_parts : {I A E : Type 0} → Chunks I A E → I × (((ℕ × Option (Vec A Global)) × Bool) × Option (Option E))
 chunks_parts s = (s.it, s.stage)
 
 -- and back

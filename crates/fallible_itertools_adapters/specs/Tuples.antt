@@ -6,13 +6,25 @@ use Rattle.fallible_iterator.specs.Contract.{Contract, Inverse}
 use Rattle.fallible_iterator.specs.Hints.{hint_kept, hint_less}
 use Rattle.fallible_iterator.specs.Outcome.{Outcome}
 use Rattle.fallible_iterator.specs.Outcome.TheVariants.{Kept, LeftOut, Failure, End}
-use Rattle.fallible_iterator.specs.Passing.{passes_all, passing_contract}
+use Rattle.fallible_iterator.specs.Passing.{ItemPassed, PassAnswer, passes_all, passing_contract}
 use Rattle.fallible_iterator.specs.Refusals.{RefusedAs}
 use Rattle.fallible_iterator.specs.Sound.{as_made}
 use Rattle.fallible_iterator.specs.Traces.{Answered}
 use Rattle.fallible_itertools_adapters.specs.Outcomes.{as_answered_item}
 use Rattle.fallible_itertools_adapters.specs.declared.tuples.TupleWindows.{TupleWindows}
 use Rattle.fallible_itertools_adapters.specs.declared.tuples.Tuples.{Tuples}
+
+-- ---- What leaves out at most one item before another
+
+module _ {P X R B E : Type 0} (call : P → X → R → P → Type 0) (outcome : X → R → Outcome B E) where
+  -- of two items one after the other one is not left out
+  abbrev pub LeavesOneOut : Type 0
+  LeavesOneOut = (p q h : P) (x y : X) (v w : R) → call p x v q → outcome x v ≡ LeftOut → call q y w h → outcome y w ≡ LeftOut → ⊥
+
+  -- what comes of one answer of the source: an answer, or nothing of an item that is left out
+  abbrev pub PassedOrLeftOut : P → Answered X E → Option (Answered B E) → P → Type 0
+  PassedOrLeftOut p drawn (Some r) q = PassAnswer call outcome p drawn r q
+  PassedOrLeftOut p drawn None q = (x : X) × (drawn ≡ Ok (Some x)) × ItemPassed call outcome p x LeftOut q
 
 -- ---- `Tuples`, which yields the items two by two
 

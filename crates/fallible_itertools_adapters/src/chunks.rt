@@ -1,5 +1,5 @@
 // The adapters that yield batches of items, and groups of adjacent items with equal keys.
-ghost use Rattle.std.specs.Prelude.{◌≡◌, MatchResult, None, Option, Result, max, Ok};
+ghost use Rattle.std.specs.Prelude.{◌≡◌, MatchResult, None, Option, Result, max, Ok, true};
 ghost use Rattle.std.specs.Int.{div_ceil};
 ghost use Rattle.std.specs.declared.alloc.Global.{Global};
 ghost use Rattle.std.specs.declared.vec.Vec.{Vec};
@@ -16,6 +16,7 @@ use crate::staging::{
 use fallible_iterator::extending::{alone, pushed};
 use fallible_iterator::{FallibleIterator, Turn};
 use std::alloc::{AllocError, Global};
+use std::mem::replace;
 
 /// Batches of n items. A batch before a stop may have fewer. A batch is buffered until it has n items, or a stop comes: `Ok(None)` or a failure, which the next call returns.
 ///
@@ -24,20 +25,23 @@ use std::alloc::{AllocError, Global};
 pub struct Chunks<I: FallibleIterator> {
     pub(crate) it: I,
     pub(crate) alloc: Global,
-    // how many items a batch has, and the buffered batch, if it has any; and the stop that is due: `Ok(None)`, or a failure
-    pub(crate) stage: (((usize, Option<Vec<I::Item>>), ()), Option<Stop<I::Error>>),
+    // how many items a batch has, the buffered batch, if it has any, and whether the batch before it was whole, or there was none; and the stop that is due: `Ok(None)`, or a failure
+    pub(crate) stage: (
+        ((usize, Option<Vec<I::Item>>), bool),
+        Option<Stop<I::Error>>,
+    ),
 }
 
 impl<I: FallibleIterator> Chunks<I> {
     /// Creates it. It draws nothing.
     #[inline(always)]
     pub fn new(it: I, alloc: Global, n: usize) -> Chunks<I>
-        ensures { chunks_parts result ≡ (it, (((n, None), tt), None)) }
+        ensures { chunks_parts result ≡ (it, (((n, None), true), None)) }
     {
         Chunks {
             it,
             alloc,
-            stage: (((n, None), ()), None),
+            stage: (((n, None), true), None),
         }
     }
 }
@@ -92,7 +96,7 @@ where
 // Draws until a batch is full or a stop comes, at most as often as a batch has items: the answer, and what is due after it. Nothing is due before.
 fn filled<I: FallibleIterator>(
     it: &mut I,
-    held: &mut ((usize, Option<Vec<I::Item>>), ()),
+    held: &mut ((usize, Option<Vec<I::Item>>), bool),
     adapter: &ChunksStage,
 ) -> AnswerAndDue<Vec<I::Item>, Stop<I::Error>, I::Error>
 where
@@ -117,7 +121,7 @@ struct ChunksStage {
     alloc: Global,
 }
 
-impl<X: Drop, E: From<AllocError>> Stage<((usize, Option<Vec<X>>), ()), X, E> for ChunksStage {
+impl<X: Drop, E: From<AllocError>> Stage<((usize, Option<Vec<X>>), bool), X, E> for ChunksStage {
     type Kept = Vec<X>;
 
     type Due = Stop<E>;
@@ -127,14 +131,15 @@ impl<X: Drop, E: From<AllocError>> Stage<((usize, Option<Vec<X>>), ()), X, E> fo
     #[inline(always)]
     fn on_item(
         &self,
-        p: &mut ((usize, Option<Vec<X>>), ()),
+        p: &mut ((usize, Option<Vec<X>>), bool),
         item: X,
     ) -> Emitted<Vec<X>, Stop<E>, E> {
-        match grown(self.alloc, p.0.0, &mut p.0.1, item) {
+        match grown(self.alloc, p.0.0, &mut p.1, &mut p.0.1, item) {
             Ok(count) => {
                 if count < p.0.0 {
                     None
                 } else {
+                    p.1 = true;
                     match p.0.1.take() {
                         Some(whole) => one(Ok(Some(whole))),
                         None => unreachable!(),
@@ -148,7 +153,7 @@ impl<X: Drop, E: From<AllocError>> Stage<((usize, Option<Vec<X>>), ()), X, E> fo
     #[inline(always)]
     fn on_stop(
         &self,
-        p: &mut ((usize, Option<Vec<X>>), ()),
+        p: &mut ((usize, Option<Vec<X>>), bool),
         stop: Stop<E>,
     ) -> Emitted<Vec<X>, Stop<E>, E>
         ensures { (chunks_rule E.from_gives).stops p.old stop result p.new }
@@ -164,11 +169,12 @@ impl<X: Drop, E: From<AllocError>> Stage<((usize, Option<Vec<X>>), ()), X, E> fo
     ghost is_stage = { is_stage_chunks E.from_gives };
 }
 
-// Appends the item to the buffered batch, or to a new one with room for n, and returns how many items the batch has then.
+// Appends the item to the buffered batch, or to a new one, and returns how many items the batch has then. A new one has room for n at once, if the one before it was whole; after one that a stop cut it grows.
 #[inline(always)]
 fn grown<X: Drop>(
     alloc: Global,
     n: usize,
+    whole: &mut bool,
     held: &mut Option<Vec<X>>,
     item: X,
 ) -> Result<usize, AllocError>
@@ -181,7 +187,8 @@ fn grown<X: Drop>(
             Ok(batch.len())
         }
         None => {
-            let batch = alone(alloc, n, item)?;
+            let room = if replace(whole, false) { n } else { n.min(4) };
+            let batch = alone(alloc, room, item)?;
             let count = batch.len();
             *held = Some(batch);
             Ok(count)

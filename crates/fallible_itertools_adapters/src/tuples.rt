@@ -1,10 +1,9 @@
 // The adapters that yield items two by two: each item once, or each beside the next.
-ghost use Rattle.std.specs.Prelude.{◌≡◌, ⊤, Option, Result, Some, None};
+ghost use Rattle.std.specs.Prelude.{◌≡◌, ⊤, Option, Result, None};
 ghost use Rattle.fallible_iterator.specs.Contract.{parts_as};
-ghost use Rattle.fallible_iterator.specs.Passing.{passing_step};
+ghost use Rattle.fallible_iterator.specs.Passing.{IfItem, passing_step};
 ghost use Rattle.fallible_iterator.specs.Laws.Contract.{lawful_parts};
-ghost use Rattle.fallible_itertools_adapters.specs.Outcomes.{as_answered_item};
-ghost use Rattle.fallible_itertools_adapters.specs.Tuples.{items_before_pair, tuple_windows_contract, tuple_windows_made, tuple_windows_parts, tuples_asks, tuples_contract, tuples_made, tuples_parts, window_at, windows_asks};
+ghost use Rattle.fallible_itertools_adapters.specs.Tuples.{LeavesOneOut, PassedOrLeftOut, items_before_pair, tuple_windows_contract, tuple_windows_made, tuple_windows_parts, tuples_asks, tuples_contract, tuples_made, tuples_parts, window_at, windows_asks};
 ghost use Rattle.fallible_itertools_adapters.specs.Laws.Tuples.{lawful_tuple_windows, lawful_tuples};
 
 use fallible_iterator::extending::{Outcome, Pass, drive_passing, kept};
@@ -41,14 +40,7 @@ where
 
     /// Draws once if an item is buffered, and otherwise until a second item, a failure or an `Ok(None)` comes.
     fn next(&mut self) -> Result<Option<(I::Item, I::Item)>, I::Error> {
-        match self.held.take() {
-            Some(first) => completed(&mut self.it, &mut self.held, first),
-            None => match self.it.draw() {
-                Ok(Some(first)) => completed(&mut self.it, &mut self.held, first),
-                Ok(None) => Ok(None),
-                Err(e) => Err(e),
-            },
-        }
+        next_of_two(&mut self.it, &mut self.held, &TuplePass)
     }
 
     fn size_hint(&self) -> (usize, Option<usize>) {
@@ -94,32 +86,6 @@ impl<X: Drop, E> Pass<Option<X>, X, E> for TuplePass {
     }
 }
 
-// One draw after the first item of a pair.
-fn completed<I: FallibleIterator>(
-    it: &mut I,
-    held: &mut Option<I::Item>,
-    first: I::Item,
-) -> Result<Option<(I::Item, I::Item)>, I::Error>
-where
-    I::Item: Drop,
-    requires none_held { held.old ≡ None }
-    requires can_next { I.contract.can_next it.old }
-    ensures { passing_step I.contract.steps tuples_asks as_answered_item
-        (it.old, Some first) result (it.new, held.new) }
-{
-    match it.next() {
-        Ok(Some(x)) => Ok(Some((first, x))),
-        Ok(None) => {
-            *held = Some(first);
-            Ok(None)
-        }
-        Err(e) => {
-            *held = Some(first);
-            Err(e)
-        }
-    }
-}
-
 /// Each two adjacent items, as pairs. The last item is buffered, and the pair has a clone of it.
 #[derive(Clone, Debug, Drop)]
 pub struct TupleWindows<I: FallibleIterator> {
@@ -153,14 +119,7 @@ where
 
     /// Draws once if an item is buffered, and otherwise until a second item, a failure or an `Ok(None)` comes.
     fn next(&mut self) -> Result<Option<(I::Item, I::Item)>, I::Error> {
-        match self.held.take() {
-            Some(before) => pair_with_next(&mut self.it, &mut self.held, before),
-            None => match self.it.draw() {
-                Ok(Some(first)) => pair_with_next(&mut self.it, &mut self.held, first),
-                Ok(None) => Ok(None),
-                Err(e) => Err(e),
-            },
-        }
+        next_of_two(&mut self.it, &mut self.held, &WindowPass)
     }
 
     fn size_hint(&self) -> (usize, Option<usize>) {
@@ -214,35 +173,48 @@ impl<X: Clone + Drop, E: From<AllocError>> Pass<Option<X>, X, E> for WindowPass 
     }
 }
 
-// One draw after that item.
-fn pair_with_next<I: FallibleIterator>(
+// One answer of what leaves out at most one item before another.
+fn next_of_two<I: FallibleIterator, P, G: Pass<P, I::Item, I::Error>>(
     it: &mut I,
-    held: &mut Option<I::Item>,
-    before: I::Item,
-) -> Result<Option<(I::Item, I::Item)>, I::Error>
+    held: &mut P,
+    adapter: &G,
+) -> Result<Option<G::Kept>, I::Error>
 where
-    I::Item: Clone + Drop,
-    I::Error: From<AllocError>,
-    requires { I.contract.can_next it.old }
-    ensures { passing_step I.contract.steps
-        (windows_asks I.Item.is_clone I.Item.is_infallible I.Error.from_gives) as_answered_item
-        (it.old, Some before) result (it.new, held.new) }
+    requires can_next { I.contract.can_next it.old }
+    requires takes { (p : P) (x : I.Item) → G.can_pass adapter.now p x }
+    requires leaves { LeavesOneOut (G.call adapter.now) (G.outcome adapter.now) }
+    ensures { passing_step I.contract.steps (G.call adapter.now) (G.outcome adapter.now)
+        (it.old, held.old) result (it.new, held.new) }
 {
-    match it.next() {
-        Ok(Some(x)) => match pair(held, before, x) {
-            Outcome::Kept(both) => Ok(Some(both)),
-            Outcome::LeftOut => unreachable!(),
-            Outcome::Failure(e) => Err(e),
-            Outcome::End => unreachable!(),
+    match answer_of(it.draw(), held, adapter) {
+        Some(answer) => answer,
+        None => match answer_of(it.next(), held, adapter) {
+            Some(answer) => answer,
+            None => unreachable!(),
         },
-        Ok(None) => {
-            *held = Some(before);
-            Ok(None)
-        }
-        Err(e) => {
-            *held = Some(before);
-            Err(e)
-        }
+    }
+}
+
+// What comes of one answer of the source: nothing of an item that is left out.
+#[inline(always)]
+fn answer_of<P, X, E, G: Pass<P, X, E>>(
+    drawn: Result<Option<X>, E>,
+    held: &mut P,
+    adapter: &G,
+) -> Option<Result<Option<G::Kept>, E>>
+    requires { IfItem (G.can_pass adapter.now held.old) drawn }
+    ensures { PassedOrLeftOut (G.call adapter.now) (G.outcome adapter.now) held.old drawn result
+        held.new }
+{
+    match drawn {
+        Ok(Some(x)) => match adapter.pass(held, x) {
+            Outcome::Kept(y) => Some(Ok(Some(y))),
+            Outcome::LeftOut => None,
+            Outcome::Failure(e) => Some(Err(e)),
+            Outcome::End => Some(Ok(None)),
+        },
+        Ok(None) => Some(Ok(None)),
+        Err(e) => Some(Err(e)),
     }
 }
 

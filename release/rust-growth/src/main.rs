@@ -21,13 +21,7 @@ const N: u64 = 1024;
 const K: u64 = 16;
 
 /// The figures that grow by more than their class, and are known to: the call, the shape, and the figure.
-const KNOWN: &[(&str, Shape, usize)] = &[
-    ("chunks", Shape::Failing, INSTRUCTIONS),
-    ("chunks", Shape::Failing, BYTES),
-    ("chunks, all kept", Shape::Failing, INSTRUCTIONS),
-    ("chunks, all kept", Shape::Failing, BYTES),
-    ("chunks, all kept", Shape::Failing, HELD),
-];
+const KNOWN: &[(&str, Shape, usize)] = &[];
 
 /// What a figure may grow by besides.
 const SLACK: f64 = 1.15;

@@ -10,7 +10,7 @@ use std::collections::HashSet;
 pub struct AllUniqueTurn;
 
 impl<A: Eq + Hash> Turn<HashSet<A>, A, Option<AllocError>> for AllUniqueTurn {
-    /// Looks the item up, and moves it into the set.
+    /// Moves the item into the set, or drops it where one equals it.
     #[inline(always)]
     fn turn(&self, state: &mut HashSet<A>, item: A) -> ControlFlow<Option<AllocError>, ()> {
         if state.insert(item) {

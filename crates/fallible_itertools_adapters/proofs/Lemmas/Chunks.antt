@@ -269,30 +269,30 @@ module _ {A : Type 0} (E : Type 0) (n : ℕ) where
 -- ---- what becomes of an item
 
 module _ {A E : Type 0} (from : AllocError → E → Type 0) where
-  abbrev IsPut : (ℕ × Option (Vec A Global)) × Unit {0} → A → Emitted (Vec A Global) (Option E) E → (ℕ × Option (Vec A Global)) × Unit {0} → Type 0
+  abbrev IsPut : (ℕ × Option (Vec A Global)) × Bool → A → Emitted (Vec A Global) (Option E) E → (ℕ × Option (Vec A Global)) × Bool → Type 0
   IsPut p x emitted q = plan_item (puts from) (chunks_plan vec_count) chunks_stops p x emitted q
 
-  pub put_of_too_few : (n : ℕ) (held left : Option (Vec A Global)) (u : Unit {0}) (x : A) (count : ℕ) → GrownTo held x left count → count < n → IsPut ((n, held), u) x None ((n, left), u)
-  put_of_too_few n held None u x count grown few = absurd grown
-  put_of_too_few n held (Some w) u x count (grown, is) few = (Ok w, grown, subst (λ b. IsTransition {E = E} (batch_at n w b) None (n, Some w)) (sym (lt-ltb (vec_count w) n (subst (λ k. k < n) is few))) (refl, refl))
+  pub put_of_too_few : (n : ℕ) (flag next : Bool) (held left : Option (Vec A Global)) (x : A) (count : ℕ) → GrownTo held x left count → count < n → IsPut ((n, held), flag) x None ((n, left), next)
+  put_of_too_few n flag next held None x count grown few = absurd grown
+  put_of_too_few n flag next held (Some w) x count (grown, is) few = (Ok w, grown, subst (λ b. IsTransition {E = E} (batch_at n w b) None (n, Some w)) (sym (lt-ltb (vec_count w) n (subst (λ k. k < n) is few))) (refl, refl))
 
-  pub put_of_whole : (n : ℕ) (held left after : Option (Vec A Global)) (u : Unit {0}) (x : A) (count : ℕ) (whole : Vec A Global) (emitted : Emitted (Vec A Global) (Option E) E) → GrownTo held x left count → n ≤ count → left ≡ Some whole → emitted ≡ one_emitted (item whole) → after ≡ None → IsPut ((n, held), u) x emitted ((n, after), u)
-  put_of_whole n held None after u x count whole emitted grown full same is none = absurd grown
-  put_of_whole n held (Some w) after u x count whole emitted (grown, counts) full same is none = let at : w ≡ whole = cc in (Ok w, grown, subst (λ b. IsTransition {E = E} (batch_at n w b) emitted (n, after)) (sym (le-ltb (vec_count w) n (subst (λ k. n ≤ k) counts full))) (rw (is, at) refl, rw none refl))
+  pub put_of_whole : (n : ℕ) (flag next : Bool) (held left after : Option (Vec A Global)) (x : A) (count : ℕ) (whole : Vec A Global) (emitted : Emitted (Vec A Global) (Option E) E) → GrownTo held x left count → n ≤ count → left ≡ Some whole → emitted ≡ one_emitted (item whole) → after ≡ None → IsPut ((n, held), flag) x emitted ((n, after), next)
+  put_of_whole n flag next held None after x count whole emitted grown full same is none = absurd grown
+  put_of_whole n flag next held (Some w) after x count whole emitted (grown, counts) full same is none = let at : w ≡ whole = cc in (Ok w, grown, subst (λ b. IsTransition {E = E} (batch_at n w b) emitted (n, after)) (sym (le-ltb (vec_count w) n (subst (λ k. n ≤ k) counts full))) (rw (is, at) refl, rw none refl))
 
   kept_where_same : (held kept : Option (Vec A Global)) → SameHeld held kept → held_without_item held kept ≡ kept
   kept_where_same None None w = refl
   kept_where_same None (Some v) w = absurd w
   kept_where_same (Some v) kept w = refl
 
-  pub put_of_refused : (n : ℕ) (held kept taken after : Option (Vec A Global)) (u : Unit {0}) (x : A) (refused : AllocError) (e : E) (emitted : Emitted (Vec A Global) (Option E) E) → NoRoom held × SameHeld held kept → from refused e → taken ≡ kept → emitted ≡ before_stop taken (Some e) → after ≡ None → IsPut ((n, held), u) x emitted ((n, after), u)
-  put_of_refused n held kept taken after u x refused e emitted w because same is none = (Err (kept, e), ((refused, because), w.0, w.1), (is ∙ ap (λ v. before_stop v (Some e)) (same ∙ sym (kept_where_same held kept w.1)), ap (λ v. (n, v)) none))
+  pub put_of_refused : (n : ℕ) (flag next : Bool) (held kept taken after : Option (Vec A Global)) (x : A) (refused : AllocError) (e : E) (emitted : Emitted (Vec A Global) (Option E) E) → NoRoom held × SameHeld held kept → from refused e → taken ≡ kept → emitted ≡ before_stop taken (Some e) → after ≡ None → IsPut ((n, held), flag) x emitted ((n, after), next)
+  put_of_refused n flag next held kept taken after x refused e emitted w because same is none = (Err (kept, e), ((refused, because), w.0, w.1), (is ∙ ap (λ v. before_stop v (Some e)) (same ∙ sym (kept_where_same held kept w.1)), ap (λ v. (n, v)) none))
 
 -- ---- where nothing is emitted
 
 module _ {A E : Type 0} (from : AllocError → E → Type 0) where
   -- how many items the batch that is held takes yet
-  abbrev pub room_of : (ℕ × Option (Vec A Global)) × Unit {0} → ℕ
+  abbrev pub room_of : (ℕ × Option (Vec A Global)) × Bool → ℕ
   room_of p = p.0.0 - length (held_items p.0.1)
 
   abbrev FillsWhereNone : ℕ × Option (Vec A Global) → Emitted (Vec A Global) (Option E) E → ℕ × Option (Vec A Global) → Type 0
@@ -306,11 +306,11 @@ module _ {A E : Type 0} (from : AllocError → E → Type 0) where
   batch_at_fills p x w true is grown = λ none. let fewer = ltb-true (vec_count w) p.0 is in let more = ap length grown ∙ length-append (held_items p.1) (x ∷ []) in omega (arith, fewer, more)
   batch_at_fills p x w false is grown = λ none. absurd cc
 
-  put_fills : (p : ℕ × Option (Vec A Global)) (x : A) (put : Put (Vec A Global) E) → puts from tt (p.1, x) put tt → FillsWhereNone p (batch_by vec_count p put).0 (batch_by vec_count p put).1
+  put_fills : (p : ℕ × Option (Vec A Global)) (x : A) (put : Put (Vec A Global) E) → Puts from p.1 x put → FillsWhereNone p (batch_by vec_count p put).0 (batch_by vec_count p put).1
   put_fills p x (Ok w) grown = batch_at_fills p x w (ltb (vec_count w) p.0) refl grown
   put_fills p x (Err (kept, e)) w = λ none. absurd (before_stop_makes_some (held_without_item p.1 kept) (Some e) none)
 
-  pub room_shrinks_where_none_emitted : (p q : (ℕ × Option (Vec A Global)) × Unit {0}) (a : Answered A E) → plan_meets (puts from) (chunks_plan vec_count) chunks_stops p a None q → room_of q < room_of p
+  pub room_shrinks_where_none_emitted : (p q : (ℕ × Option (Vec A Global)) × Bool) (a : Answered A E) → plan_meets (puts from) (chunks_plan vec_count) chunks_stops p a None q → room_of q < room_of p
   room_shrinks_where_none_emitted p q (Ok (Some x)) w = let k = put_fills p.0 x w.0 w.1 (sym w.2.0) in rw w.2.1 k
   room_shrinks_where_none_emitted p q (Ok None) w = absurd (before_stop_makes_some p.0.1 None (sym w.0.0))
   room_shrinks_where_none_emitted p q (Err e) w = absurd (before_stop_makes_some p.0.1 (Some e) (sym w.0.0))
@@ -330,7 +330,7 @@ module _ {A E : Type 0} (from : AllocError → E → Type 0) where
   put_of q = put_last q.0 q.1
 
   abbrev Alike : Transition (ℕ × Option (Vec A Global)) (Vec A Global) (Option E) E → Transition (ℕ × Option (List A)) (List A) (Option E) E → Type 0
-  Alike t u = MadeAlike (puts from) (chunks_plan vec_count) chunks_stops put_of (chunks_plan length) chunks_stops batch_made from tt HeldAlike t u
+  Alike t u = MadeAlike (puts from) (chunks_plan vec_count) chunks_stops put_of (chunks_plan length) chunks_stops batch_made from (λ whole. ⊤) HeldAlike t u
 
   batch_at_alike : (n : ℕ) (w : Vec A Global) (ys : List A) (few : Bool) → vec_items w ≡ ys → Alike (batch_at n w few) (batch_at n ys few)
   batch_at_alike n w ys true is = ((refl, is), tt)
@@ -346,22 +346,22 @@ module _ {A E : Type 0} (from : AllocError → E → Type 0) where
   grown_alike (n, Some v) (m, Some xs) x w at grown = batch_put_alike n m w (xs ++ x ∷ []) at.0 (subst (λ (zs : List A). vec_items w ≡ zs ++ x ∷ []) at.1 grown)
 
   abbrev Refused : Emitted (Vec A Global) (Option E) E → Type 0
-  Refused emitted = RefusalAfterHeld (puts from) (chunks_plan vec_count) chunks_stops put_of (chunks_plan length) chunks_stops batch_made from tt HeldAlike emitted
+  Refused emitted = RefusalAfterHeld (puts from) (chunks_plan vec_count) chunks_stops put_of (chunks_plan length) chunks_stops batch_made from (λ whole. ⊤) HeldAlike emitted
 
-  put_alike : (h : ℕ × Option (Vec A Global)) (k : ℕ × Option (List A)) (x : A) (put : Put (Vec A Global) E) → HeldAlike h k → puts from tt (h.1, x) put tt → Refused (batch_by vec_count h put).0 ⊎ Alike (batch_by vec_count h put) (batch_by length k (put_last k.1 x))
+  put_alike : (h : ℕ × Option (Vec A Global)) (k : ℕ × Option (List A)) (x : A) (put : Put (Vec A Global) E) → HeldAlike h k → Puts from h.1 x put → Refused (batch_by vec_count h put).0 ⊎ Alike (batch_by vec_count h put) (batch_by length k (put_last k.1 x))
   put_alike h k x (Ok w) at grown = inr (grown_alike h k x w at grown)
   put_alike h k x (Err (kept, e)) at w = inl (held_without_item h.1 kept, e, refl, w.0)
 
-  chunks_plans_alike : (h : ℕ × Option (Vec A Global)) (k : ℕ × Option (List A)) (x : A) → HeldAlike h k → PlansAlike (puts from) (chunks_plan vec_count) chunks_stops put_of (chunks_plan length) chunks_stops batch_made from tt HeldAlike (chunks_plan vec_count h x) (chunks_plan length k x)
-  chunks_plans_alike h k x at = λ put g called. elim (put_alike h k x put at called) [ inl w ↦ inl w | inr w ↦ inr (refl, w) ]
+  chunks_plans_alike : (h : ℕ × Option (Vec A Global)) (k : ℕ × Option (List A)) (x : A) → HeldAlike h k → PlansAlike (puts from) (chunks_plan vec_count) chunks_stops put_of (chunks_plan length) chunks_stops batch_made from (λ whole. ⊤) HeldAlike (chunks_plan vec_count h x) (chunks_plan length k x)
+  chunks_plans_alike h k x at = λ whole put next acting called. elim (put_alike h k x put at called) [ inl w ↦ inl w | inr w ↦ inr (tt, w) ]
 
   chunks_stops_alike : (h : ℕ × Option (Vec A Global)) (k : ℕ × Option (List A)) (stop : Option E) → HeldAlike h k → Alike (chunks_stops h stop) (chunks_stops k stop)
   chunks_stops_alike h k stop at = ((at.0, tt), before_stop_made batch_made h.1 k.1 stop at.1)
 
-pub lists_up_to_refusal_chunked : {S A E : Type 0} {it : S} (m : Contract S A E) (from : AllocError → E → Type 0) (n : ℕ) (s : Chunks S A E) (l : List (Result A E)) → chunks_parts s ≡ (it, (((n, None), tt), None)) → Lists m.steps it l → ListsMade (λ xs v. vec_items v ≡ xs) (parts_as chunks_parts (chunks_contract from m)).steps from s (chunked n l)
+pub lists_up_to_refusal_chunked : {S A E : Type 0} {it : S} (m : Contract S A E) (from : AllocError → E → Type 0) (n : ℕ) (s : Chunks S A E) (l : List (Result A E)) → chunks_parts s ≡ (it, (((n, None), true), None)) → Lists m.steps it l → ListsMade (λ xs v. vec_items v ≡ xs) (parts_as chunks_parts (chunks_contract from m)).steps from s (chunked n l)
 unfolding chunked
 lists_up_to_refusal_chunked {E = E} {it = it} m from n s l parts i = lists_made_seen (λ xs v. vec_items v ≡ xs) from chunks_parts (chunks_contract from m).steps s _ _ _ parts refl
-    (gives_made_plan (puts from) (chunks_plan vec_count) chunks_stops (put_of from) (chunks_plan length) chunks_stops batch_made from tt (HeldAlike from) (chunks_plans_alike from) (chunks_stops_alike from) m.steps (λ v. (vec_items v, refl)) (λ k. end_before_stop E k.1) (λ k y l is. chunked_from_is_never_nil E k.0 k.1 y l is) l it (n, None) (n, None) (refl, tt) i.runs)
+    (gives_made_plan (puts from) (chunks_plan vec_count) chunks_stops (put_of from) (chunks_plan length) chunks_stops batch_made from (λ whole. ⊤) (HeldAlike from) (chunks_plans_alike from) (chunks_stops_alike from) m.steps (λ v. (vec_items v, refl)) (λ k. end_before_stop E k.1) (λ k y l is. chunked_from_is_never_nil E k.0 k.1 y l is) l it (n, None) true (n, None) tt (refl, tt) i.runs)
 
 -- ---- What `chunked_by` makes of a list, step by step
 
@@ -668,10 +668,10 @@ module _ {F A K E : Type 0} (from : AllocError → E → Type 0) (eq : K → K �
   keyed_put_of q = put_by_key eq h q.0 q.1 (h q.1)
 
   abbrev GroupAlike : Transition (Option (Group K A)) (Group K A) (Option E) E → Transition (Option (K × List A)) (K × List A) (Option E) E → Type 0
-  GroupAlike t u = MadeAlike (puts_by_key from eq g) (chunk_by_plan eq) chunk_by_stops keyed_put_of (chunk_by_plan eq) chunk_by_stops MadeGroup from f GroupHeldAlike t u
+  GroupAlike t u = MadeAlike (puts_by_key from eq g) (chunk_by_plan eq) chunk_by_stops keyed_put_of (chunk_by_plan eq) chunk_by_stops MadeGroup from (λ z. z ≡ f) GroupHeldAlike t u
 
   abbrev GroupRefused : Emitted (Group K A) (Option E) E → Type 0
-  GroupRefused emitted = RefusalAfterHeld (puts_by_key from eq g) (chunk_by_plan eq) chunk_by_stops keyed_put_of (chunk_by_plan eq) chunk_by_stops MadeGroup from f GroupHeldAlike emitted
+  GroupRefused emitted = RefusalAfterHeld (puts_by_key from eq g) (chunk_by_plan eq) chunk_by_stops keyed_put_of (chunk_by_plan eq) chunk_by_stops MadeGroup from (λ z. z ≡ f) GroupHeldAlike emitted
 
   group_at_alike : (p : Group K A) (xs : List A) (k : K) (x : A) (w : Vec A Global) (same : Bool) → vec_items p.1 ≡ xs → Grown (cond same (Some p.1) None) x w → GroupAlike (group_at p k w same) (group_made eq h (p.0, xs) x k same)
   group_at_alike p xs k x w true is grown = ((refl, subst (λ (zs : List A). vec_items w ≡ zs ++ x ∷ []) is grown), tt)
@@ -692,8 +692,8 @@ module _ {F A K E : Type 0} (from : AllocError → E → Type 0) (eq : K → K �
   keyed_alike held a x (Ok (k, put)) c acts at w = let called = acts x (Ok k) c w.0 in elim (group_put_alike held a x k put at w.1) [ inl r ↦ inl r | inr r ↦ inr (called.0, subst (λ z. GroupAlike (group_by eq held (Ok (k, put))) (group_by eq a (put_by_key eq h a x z))) called.1 r) ]
   keyed_alike held a x (Err e) c acts at w = let called = acts x (Err e) c w in inr (called.0, subst (λ z. GroupAlike (group_by eq held (Err e)) (group_by eq a (put_by_key eq h a x z))) called.1 (tt, before_stop_made MadeGroup held a (Some e) at))
 
-  plans_alike : Acts (call_by_reference g) f h → (held : Option (Group K A)) (a : Option (K × List A)) (x : A) → GroupHeldAlike held a → PlansAlike (puts_by_key from eq g) (chunk_by_plan eq) chunk_by_stops keyed_put_of (chunk_by_plan eq) chunk_by_stops MadeGroup from f GroupHeldAlike (chunk_by_plan eq held x) (chunk_by_plan eq a x)
-  plans_alike acts held a x at = λ v c called. keyed_alike held a x v c acts at called
+  plans_alike : Acts (call_by_reference g) f h → (held : Option (Group K A)) (a : Option (K × List A)) (x : A) → GroupHeldAlike held a → PlansAlike (puts_by_key from eq g) (chunk_by_plan eq) chunk_by_stops keyed_put_of (chunk_by_plan eq) chunk_by_stops MadeGroup from (λ z. z ≡ f) GroupHeldAlike (chunk_by_plan eq held x) (chunk_by_plan eq a x)
+  plans_alike acts held a x at = λ z v c same called. keyed_alike held a x v c acts at (subst (λ (k : F). puts_by_key from eq g k (held, x) v c) same called)
 
   stops_alike : (held : Option (Group K A)) (a : Option (K × List A)) (stop : Option E) → GroupHeldAlike held a → GroupAlike (chunk_by_stops held stop) (chunk_by_stops a stop)
   stops_alike held a stop at = (tt, before_stop_made MadeGroup held a stop at)
@@ -701,7 +701,7 @@ module _ {F A K E : Type 0} (from : AllocError → E → Type 0) (eq : K → K �
 pub lists_up_to_refusal_chunked_by : {S F A K E : Type 0} {it : S} (m : Contract S A E) (from : AllocError → E → Type 0) (eq : K → K → Bool) (c : Mut F (Bor A × Unit {0}) (Result K E)) (f : F) (h : A → Result K E) → Acts (call_by_reference c) f h → (s : ChunkBy S K F A E) (l : List (Result A E)) → chunk_by_parts s ≡ (it, ((None, f), None)) → Lists m.steps it l → ListsMade MadeGroup (parts_as chunk_by_parts (chunk_by_contract from eq c m)).steps from s (chunked_by eq h l)
 unfolding chunked_by
 lists_up_to_refusal_chunked_by {E = E} {it = it} m from eq c f h acts s l parts i = lists_made_seen MadeGroup from chunk_by_parts (chunk_by_contract from eq c m).steps s _ _ _ parts refl
-    (gives_made_plan (puts_by_key from eq c) (chunk_by_plan eq) chunk_by_stops (keyed_put_of from eq c f h) (chunk_by_plan eq) chunk_by_stops MadeGroup from f (GroupHeldAlike from eq c f h) (plans_alike from eq c f h acts) (stops_alike from eq c f h) m.steps (λ y. ((y.0, vec_items y.1), (refl, refl))) (λ a. end_before_stop E a) (λ a y l is. grouped_from_is_never_nil eq h a y l is) l it None None tt i.runs)
+    (gives_made_plan (puts_by_key from eq c) (chunk_by_plan eq) chunk_by_stops (keyed_put_of from eq c f h) (chunk_by_plan eq) chunk_by_stops MadeGroup from (λ z. z ≡ f) (GroupHeldAlike from eq c f h) (plans_alike from eq c f h acts) (stops_alike from eq c f h) m.steps (λ y. ((y.0, vec_items y.1), (refl, refl))) (λ a. end_before_stop E a) (λ a y l is. grouped_from_is_never_nil eq h a y l is) l it None f None refl tt i.runs)
 
 -- ---- where it may be called
 

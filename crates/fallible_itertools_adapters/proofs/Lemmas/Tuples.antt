@@ -6,18 +6,19 @@ use Rattle.fallible_iterator.specs.Contract.{Contract, parts_as}
 use Rattle.fallible_iterator.specs.Lists.{Lists}
 use Rattle.fallible_iterator.specs.Outcome.{Outcome}
 use Rattle.fallible_iterator.specs.Outcome.TheVariants.{Kept, LeftOut, Failure, End}
-use Rattle.fallible_iterator.specs.Passing.{passing_step}
+use Rattle.fallible_iterator.specs.Passing.{PassAnswer, passing_step}
 use Rattle.fallible_iterator.specs.Refusing.{ListsUntilRefused}
 use Rattle.fallible_iterator.specs.Traces.{Answered}
-use Rattle.fallible_iterator.specs.Laws.Passing.{leaves_out, passes_of_pass_trace, pass_trace_of_passes, pass_trace_end, pass_trace_failure}
+use Rattle.fallible_iterator.specs.Laws.Passing.{leaves_out, passes_of_pass_trace, pass_trace_of_passes}
 use Rattle.fallible_iterator.proofs.Lemmas.Lists.Passing.{passed, gives_all, lists_seen}
+use Rattle.fallible_iterator.proofs.Lemmas.Passing.{pass_trace_answer}
 use Rattle.fallible_iterator.proofs.Lemmas.Refusing.{IsOutcomeOrRefused, gives_passed_until_refused, lists_until_refused_seen}
 use Rattle.fallible_itertools_adapters.specs.Outcomes.{as_answered_item}
-use Rattle.fallible_itertools_adapters.specs.Tuples.{tupled, tupled_after, tuples_asks, tuples_contract, tuples_parts, HasSecondCloned, window_at, windows_asks, tuple_windows_contract, tuple_windows_parts, windowed, windows_from}
+use Rattle.fallible_itertools_adapters.specs.Tuples.{LeavesOneOut, PassedOrLeftOut, tupled, tupled_after, tuples_asks, tuples_contract, tuples_parts, HasSecondCloned, window_at, windows_asks, tuple_windows_contract, tuple_windows_parts, windowed, windows_from}
 use Rattle.fallible_itertools_adapters.specs.declared.tuples.TupleWindows.{TupleWindows}
 use Rattle.fallible_itertools_adapters.specs.declared.tuples.Tuples.{Tuples}
 
--- ---- What `Tuples` lists, and its draws where none is held
+-- ---- What `Tuples` lists
 
 abbrev held_after : {A : Type 0} → Option A → A → Option A
 held_after None x = Some x
@@ -48,21 +49,10 @@ module _ {A E : Type 0} where
   pub lists_tupled : {S : Type 0} {it : S} (m : Contract S A E) (s : Tuples S A E) (l : List (Result A E)) → tuples_parts s ≡ (it, None) → Lists m.steps it l → Lists (parts_as tuples_parts (tuples_contract m)).steps s (tupled l)
   lists_tupled {it = it} m s l parts i = lists_seen tuples_parts (tuples_contract m).steps s parts (passed_is_tupled_where_none_held l) (gives_all m.steps tuples_asks as_answered_item (λ p a. p ≡ a) pair_outcome held_after acts_by_held l it None None refl i.runs)
 
--- ---- one draw where none is held
-
-module _ {S A E : Type 0} (steps : S → Answered A E → S → Type 0) where
-  abbrev StepOfTuples : S × Option A → Answered (A × A) E → S × Option A → Type 0
-  StepOfTuples = passing_step steps tuples_asks as_answered_item
-
-  -- the first item, and then what comes after it
-  pub tuple_step_after_first_item : {s u : S} {held : Option A} {q : S × Option A} (x : A) {r : Answered (A × A) E} → None ≡ held → steps s (Ok (Some x)) u → StepOfTuples (u, Some x) r q → StepOfTuples (s, held) r q
-  tuple_step_after_first_item {s = s} {q = q} x {r = r} none step w = subst (λ (h : Option A). StepOfTuples (s, h) r q) none (pass_trace_of_passes (leaves_out x LeftOut step (refl, refl) refl (passes_of_pass_trace w)))
-
-  pub tuple_step_ends_where_none_held : {s t : S} {held after : Option A} → None ≡ held → after ≡ None → steps s (Ok None) t → StepOfTuples (s, held) (Ok None) (t, after)
-  tuple_step_ends_where_none_held {s = s} {t = t} none is step = rw is (subst (λ (h : Option A). StepOfTuples (s, h) (Ok None) (t, None)) none (pass_trace_end step))
-
-  pub tuple_step_fails_where_none_held : {s t : S} {held after : Option A} {e : E} → None ≡ held → after ≡ None → steps s (Err e) t → StepOfTuples (s, held) (Err e) (t, after)
-  tuple_step_fails_where_none_held {s = s} {t = t} {e = e} none is step = rw is (subst (λ (h : Option A). StepOfTuples (s, h) (Err e) (t, None)) none (pass_trace_failure step))
+  -- of two items the second completes a pair
+  pub tuples_leave_one_out : LeavesOneOut {B = A × A} {E = E} tuples_asks as_answered_item
+  tuples_leave_one_out None q h x y v w first left next out = absurd (let o : w ≡ Kept (x, y) = (subst (λ (k : Option A). tuples_asks k y w h) first.1 next).0 in cc)
+  tuples_leave_one_out (Some z) q h x y v w first left next out = absurd (let o = first.0 in cc)
 
 -- ---- What `TupleWindows` lists, where a clone equals its original and never fails; and until one fails
 
@@ -129,18 +119,18 @@ module _ {A E : Type 0} (is_clone : A → A → Type 0) (is_infallible : A → T
   lists_windowed_until_refused {it = it} m s l parts i = lists_until_refused_seen (HasSecondCloned is_clone) from tuple_windows_parts (tuple_windows_contract is_clone is_infallible from m).steps s parts (windows_listed_is_windowed l)
       (gives_passed_until_refused (HasSecondCloned is_clone) from m.steps (windows_asks is_clone is_infallible from) as_answered_item (λ p a. p ≡ a) window_outcome next_item acts_or_refuses l it None None refl i.runs)
 
--- ---- one draw where none is held
+module _ {A E : Type 0} (is_clone : A → A → Type 0) (is_infallible : A → Type 0) (from : AllocError → E → Type 0) where
+  window_at_is_not_left_out : (y x : A) (o : Outcome (A × A) E) (q : Option A) → window_at is_clone is_infallible from y x o q → o ≡ LeftOut → ⊥
+  window_at_is_not_left_out y x o q w is = subst (λ z. window_at is_clone is_infallible from y x z q) is w
 
-module _ {S A E : Type 0} (steps : S → Answered A E → S → Type 0) (is_clone : A → A → Type 0) (is_infallible : A → Type 0) (from : AllocError → E → Type 0) where
-  abbrev StepOfTupleWindows : S × Option A → Answered (A × A) E → S × Option A → Type 0
-  StepOfTupleWindows = passing_step steps (windows_asks is_clone is_infallible from) as_answered_item
+  -- only the first item is left out
+  pub windows_leave_one_out : LeavesOneOut (windows_asks is_clone is_infallible from) as_answered_item
+  windows_leave_one_out None q h x y v w first left next out = window_at_is_not_left_out x y w h (subst (λ (k : Option A). windows_asks is_clone is_infallible from k y w h) first.1 next) out
+  windows_leave_one_out (Some z) q h x y v w first left next out = window_at_is_not_left_out z x v q first left
 
-  -- the first item, and then a pair
-  pub window_step_after_first_item : {s u : S} {held : Option A} {q : S × Option A} (x : A) {r : Answered (A × A) E} → None ≡ held → steps s (Ok (Some x)) u → StepOfTupleWindows (u, Some x) r q → StepOfTupleWindows (s, held) r q
-  window_step_after_first_item {s = s} {q = q} x {r = r} none step w = subst (λ (h : Option A). StepOfTupleWindows (s, h) r q) none (pass_trace_of_passes (leaves_out x LeftOut step (refl, refl) refl (passes_of_pass_trace w)))
+-- ---- one answer of what leaves out at most one item before another
 
-  pub window_step_ends_where_none_held : {s t : S} {held after : Option A} → None ≡ held → after ≡ None → steps s (Ok None) t → StepOfTupleWindows (s, held) (Ok None) (t, after)
-  window_step_ends_where_none_held {s = s} {t = t} {after = after} none is step = subst (λ (h : Option A). StepOfTupleWindows (s, h) (Ok None) (t, after)) none (subst (λ (h : Option A). StepOfTupleWindows (s, None) (Ok None) (t, h)) (sym is) (pass_trace_end step))
-
-  pub window_step_fails_where_none_held : {s t : S} {held after : Option A} {e : E} → None ≡ held → after ≡ None → steps s (Err e) t → StepOfTupleWindows (s, held) (Err e) (t, after)
-  window_step_fails_where_none_held {s = s} {t = t} {after = after} {e = e} none is step = subst (λ (h : Option A). StepOfTupleWindows (s, h) (Err e) (t, after)) none (subst (λ (h : Option A). StepOfTupleWindows (s, None) (Err e) (t, h)) (sym is) (pass_trace_failure step))
+module _ {S P X R B E : Type 0} (steps : S → Answered X E → S → Type 0) (call : P → X → R → P → Type 0) (outcome : X → R → Outcome B E) where
+  -- an item that is left out, and what comes of the next answer
+  pub step_after_left_out : {s u t : S} {p g q : P} {r : Answered B E} (drawn next : Answered X E) → steps s drawn u → PassedOrLeftOut call outcome p drawn None g → steps u next t → PassAnswer call outcome g next r q → passing_step steps call outcome (s, p) r (t, q)
+  step_after_left_out {s = s} {u = u} drawn next step (x, is, w) after answer = pass_trace_of_passes (leaves_out x w.0 (subst (λ z. steps s z u) is step) w.1 w.2 (passes_of_pass_trace (pass_trace_answer next after answer)))

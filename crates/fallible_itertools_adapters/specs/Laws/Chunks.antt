@@ -70,7 +70,7 @@ module _ {A E : Type 0} (from : AllocError → E → Type 0) where
   few_at_end n None after = omega arith
   few_at_end n (Some v) after = (0, refl, omega arith)
 
-  abbrev Few : (ℕ × Option (Vec A Global)) × Unit {0} → ℕ → ℕ → Type 0
+  abbrev Few : (ℕ × Option (Vec A Global)) × Bool → ℕ → ℕ → Type 0
   Few p low m = EnoughBegun p.0.0 p.0.1 low m
 
   few_of_transition : (h : ℕ × Option (Vec A Global)) (t : Transition (ℕ × Option (Vec A Global)) (Vec A Global) (Option E) E) (emitted : Emitted (Vec A Global) (Option E) E) (k : ℕ × Option (Vec A Global)) (low i : ℕ) → IsTransition t emitted k → t.1.0 ≡ h.0 → EmittedFew stop_comes t.0 (λ n. EnoughBegun h.0 t.1.1 i n) (λ n. EnoughBegun h.0 h.1 low n) → EmittedFew stop_comes emitted (λ n. EnoughBegun k.0 k.1 i n) (λ n. EnoughBegun h.0 h.1 low n)

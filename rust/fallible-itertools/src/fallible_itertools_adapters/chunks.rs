@@ -7,6 +7,7 @@ use crate::fallible_itertools_adapters::staging::{
     next_until, one, put_due, stop_answer, with_held,
 };
 use alloc::vec::Vec;
+use core::mem::replace;
 use fallible_iterator::FallibleIterator;
 
 /// Batches of n items. A batch before a stop may have fewer. A batch is buffered until it has n items, or a stop comes: `Ok(None)` or a failure, which the next call returns.
@@ -14,8 +15,11 @@ use fallible_iterator::FallibleIterator;
 #[must_use = "an iterator draws nothing until it is asked"]
 pub struct Chunks<I: FallibleIterator> {
     pub(crate) it: I,
-    // how many items a batch has, and the buffered batch, if it has any; and the stop that is due: `Ok(None)`, or a failure
-    pub(crate) stage: (((usize, Option<Vec<I::Item>>), ()), Option<Stop<I::Error>>),
+    // how many items a batch has, the buffered batch, if it has any, and whether the batch before it was whole, or there was none; and the stop that is due: `Ok(None)`, or a failure
+    pub(crate) stage: (
+        ((usize, Option<Vec<I::Item>>), bool),
+        Option<Stop<I::Error>>,
+    ),
 }
 
 impl<I: FallibleIterator> Chunks<I> {
@@ -25,7 +29,7 @@ impl<I: FallibleIterator> Chunks<I> {
         assert!(n != 0);
         Chunks {
             it,
-            stage: (((n, None), ()), None),
+            stage: (((n, None), true), None),
         }
     }
 }
@@ -78,7 +82,7 @@ impl<I: FallibleIterator> FallibleIterator for Chunks<I> {
 // Draws until a batch is full or a stop comes, at most as often as a batch has items: the answer, and what is due after it. Nothing is due before.
 fn filled<I: FallibleIterator>(
     it: &mut I,
-    held: &mut ((usize, Option<Vec<I::Item>>), ()),
+    held: &mut ((usize, Option<Vec<I::Item>>), bool),
     adapter: &ChunksStage,
 ) -> AnswerAndDue<Vec<I::Item>, Stop<I::Error>, I::Error> {
     loop {
@@ -92,7 +96,7 @@ fn filled<I: FallibleIterator>(
 // What becomes of an item after the buffered batch.
 struct ChunksStage;
 
-impl<X, E> Stage<((usize, Option<Vec<X>>), ()), X, E> for ChunksStage {
+impl<X, E> Stage<((usize, Option<Vec<X>>), bool), X, E> for ChunksStage {
     type Kept = Vec<X>;
 
     type Due = Stop<E>;
@@ -100,12 +104,13 @@ impl<X, E> Stage<((usize, Option<Vec<X>>), ()), X, E> for ChunksStage {
     #[inline(always)]
     fn on_item(
         &self,
-        p: &mut ((usize, Option<Vec<X>>), ()),
+        p: &mut ((usize, Option<Vec<X>>), bool),
         item: X,
     ) -> Emitted<Vec<X>, Stop<E>, E> {
-        if grown(p.0.0, &mut p.0.1, item) < p.0.0 {
+        if grown(p.0.0, &mut p.1, &mut p.0.1, item) < p.0.0 {
             None
         } else {
+            p.1 = true;
             match p.0.1.take() {
                 Some(whole) => one(Ok(Some(whole))),
                 None => unreachable!(),
@@ -116,7 +121,7 @@ impl<X, E> Stage<((usize, Option<Vec<X>>), ()), X, E> for ChunksStage {
     #[inline(always)]
     fn on_stop(
         &self,
-        p: &mut ((usize, Option<Vec<X>>), ()),
+        p: &mut ((usize, Option<Vec<X>>), bool),
         stop: Stop<E>,
     ) -> Emitted<Vec<X>, Stop<E>, E> {
         let_go(p.0.1.take(), stop)
@@ -128,16 +133,17 @@ impl<X, E> Stage<((usize, Option<Vec<X>>), ()), X, E> for ChunksStage {
     }
 }
 
-// Appends the item to the buffered batch, or to a new one with room for n, and returns how many items the batch has then.
+// Appends the item to the buffered batch, or to a new one, and returns how many items the batch has then. A new one has room for n at once, if the one before it was whole; after one that a stop cut it grows.
 #[inline(always)]
-fn grown<X>(n: usize, held: &mut Option<Vec<X>>, item: X) -> usize {
+fn grown<X>(n: usize, whole: &mut bool, held: &mut Option<Vec<X>>, item: X) -> usize {
     match held {
         Some(batch) => {
             pushed(batch, item);
             batch.len()
         }
         None => {
-            let batch = alone(n, item);
+            let room = if replace(whole, false) { n } else { n.min(4) };
+            let batch = alone(room, item);
             let count = batch.len();
             *held = Some(batch);
             count

@@ -40,14 +40,7 @@ impl<I: FallibleIterator> FallibleIterator for Tuples<I> {
 
     /// Draws once if an item is buffered, and otherwise until a second item, a failure or an `Ok(None)` comes.
     fn next(&mut self) -> Result<Option<(I::Item, I::Item)>, I::Error> {
-        match self.held.take() {
-            Some(first) => completed(&mut self.it, &mut self.held, first),
-            None => match self.it.next() {
-                Ok(Some(first)) => completed(&mut self.it, &mut self.held, first),
-                Ok(None) => Ok(None),
-                Err(e) => Err(e),
-            },
-        }
+        next_of_two(&mut self.it, &mut self.held, &TuplePass)
     }
 
     fn size_hint(&self) -> (usize, Option<usize>) {
@@ -74,25 +67,6 @@ impl<X, E> Pass<Option<X>, X, E> for TuplePass {
                 *held = Some(item);
                 Outcome::LeftOut
             }
-        }
-    }
-}
-
-// One draw after the first item of a pair.
-fn completed<I: FallibleIterator>(
-    it: &mut I,
-    held: &mut Option<I::Item>,
-    first: I::Item,
-) -> Result<Option<(I::Item, I::Item)>, I::Error> {
-    match it.next() {
-        Ok(Some(x)) => Ok(Some((first, x))),
-        Ok(None) => {
-            *held = Some(first);
-            Ok(None)
-        }
-        Err(e) => {
-            *held = Some(first);
-            Err(e)
         }
     }
 }
@@ -139,14 +113,7 @@ where
 
     /// Draws once if an item is buffered, and otherwise until a second item, a failure or an `Ok(None)` comes.
     fn next(&mut self) -> Result<Option<(I::Item, I::Item)>, I::Error> {
-        match self.held.take() {
-            Some(before) => pair_with_next(&mut self.it, &mut self.held, before),
-            None => match self.it.next() {
-                Ok(Some(first)) => pair_with_next(&mut self.it, &mut self.held, first),
-                Ok(None) => Ok(None),
-                Err(e) => Err(e),
-            },
-        }
+        next_of_two(&mut self.it, &mut self.held, &WindowPass)
     }
 
     fn size_hint(&self) -> (usize, Option<usize>) {
@@ -184,30 +151,37 @@ impl<X: Clone, E> Pass<Option<X>, X, E> for WindowPass {
     }
 }
 
-// One draw after that item.
-fn pair_with_next<I: FallibleIterator>(
+// One answer of what leaves out at most one item before another.
+fn next_of_two<I: FallibleIterator, P, G: Pass<P, I::Item, I::Error>>(
     it: &mut I,
-    held: &mut Option<I::Item>,
-    before: I::Item,
-) -> Result<Option<(I::Item, I::Item)>, I::Error>
-where
-    I::Item: Clone,
-{
-    match it.next() {
-        Ok(Some(x)) => match pair(held, before, x) {
-            Outcome::Kept(both) => Ok(Some(both)),
-            Outcome::LeftOut => unreachable!(),
-            Outcome::Failure(e) => Err(e),
-            Outcome::End => unreachable!(),
+    held: &mut P,
+    adapter: &G,
+) -> Result<Option<G::Kept>, I::Error> {
+    match answer_of(it.next(), held, adapter) {
+        Some(answer) => answer,
+        None => match answer_of(it.next(), held, adapter) {
+            Some(answer) => answer,
+            None => unreachable!(),
         },
-        Ok(None) => {
-            *held = Some(before);
-            Ok(None)
-        }
-        Err(e) => {
-            *held = Some(before);
-            Err(e)
-        }
+    }
+}
+
+// What comes of one answer of the source: nothing of an item that is left out.
+#[inline(always)]
+fn answer_of<P, X, E, G: Pass<P, X, E>>(
+    drawn: Result<Option<X>, E>,
+    held: &mut P,
+    adapter: &G,
+) -> Option<Result<Option<G::Kept>, E>> {
+    match drawn {
+        Ok(Some(x)) => match adapter.pass(held, x) {
+            Outcome::Kept(y) => Some(Ok(Some(y))),
+            Outcome::LeftOut => None,
+            Outcome::Failure(e) => Some(Err(e)),
+            Outcome::End => Some(Ok(None)),
+        },
+        Ok(None) => Some(Ok(None)),
+        Err(e) => Some(Err(e)),
     }
 }
 

@@ -1,5 +1,5 @@
-// changed: std's `insert` looks the item up, and refuses nothing
-// proved: 5fa9ac81
+// changed: nothing is refused
+// proved: 63a2f3e4
 fn turn(&self, state: &mut HashSet<A>, item: A) -> ControlFlow<Option<AllocError>, ()>
 {
     if state.insert(item) {

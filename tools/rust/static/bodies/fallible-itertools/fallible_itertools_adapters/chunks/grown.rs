@@ -1,7 +1,8 @@
 // changed: no allocator is passed, and none refuses
-// proved: 47b0a5e1
+// proved: 5e47ee5f
 fn grown<X>(
     n: usize,
+    whole: &mut bool,
     held: &mut Option<Vec<X>>,
     item: X,
 ) -> usize
@@ -12,7 +13,8 @@ fn grown<X>(
             batch.len()
         }
         None => {
-            let batch = alone(n, item);
+            let room = if replace(whole, false) { n } else { n.min(4) };
+            let batch = alone(room, item);
             let count = batch.len();
             *held = Some(batch);
             count
