@@ -8,7 +8,7 @@ ghost use Rattle.fallible_itertools_joins.specs.Laws.KMerge.{lawful_kmerge};
 ghost use Rattle.fallible_itertools_joins.specs.Laws.Sides.{lawful_fused};
 ghost use Rattle.fallible_itertools_joins.specs.Sides.{fused_contract};
 
-use crate::kmerge_by::{MergeTree, give};
+use crate::kmerge_by::{MergeTree, draw_into};
 use fallible_iterator::{FallibleIterator, Fuse};
 
 /// The items of many sources, each fused. Of two items the lesser goes first, and of equal ones the earlier source's. A failure of a source is yielded, and loses nothing that is buffered.
@@ -35,7 +35,9 @@ where
         let mut in_order = |x: &I::Item, y: &I::Item| -> Result<bool, I::Error>
             ensures { result ≡ Ok (reads_le (I.Item.partial_cmp x.now y.now)) }
         { Ok(x <= y) };
-        give(&mut self.tree, &mut None, &mut in_order)
+        let mut place = None;
+        draw_into(&mut self.tree, &mut place, &mut in_order)?;
+        Ok(place)
     }
 
     fn size_hint(&self) -> (usize, Option<usize>) {

@@ -323,13 +323,13 @@ pub fn duplicates<W: Way>(n: u64) -> u64 {
 
 #[inline(never)]
 pub fn kmerge_8<W: Way>(n: u64) -> u64 {
-    let sources = (0..8).map(|first| numbers(n / 8).map(move |x| Ok(8 * x + first))).collect();
+    let sources = (0..8).map(|first| numbers(n / 8).map(move |x| Ok(8 * x + first)));
     W::drained(kmerge(sources))
 }
 
 #[inline(never)]
 pub fn kmerge_by_8<W: Way>(n: u64) -> u64 {
-    let sources = (0..8).map(|first| numbers(n / 8).map(move |x| Ok(8 * x + first))).collect();
+    let sources = (0..8).map(|first| numbers(n / 8).map(move |x| Ok(8 * x + first)));
     W::drained(kmerge_by(sources, |x: &u64, y: &u64| Ok(x <= y)))
 }
 

@@ -1,6 +1,6 @@
 //! The adapter that merges the items of many sources by their order.
 
-use crate::fallible_itertools_joins::kmerge_by::{MergeTree, give};
+use crate::fallible_itertools_joins::kmerge_by::{MergeTree, draw_into};
 use fallible_iterator::{FallibleIterator, Fuse};
 
 /// The items of many sources, each fused. Of two items the lesser goes first, and of equal ones the earlier source's. A failure of a source is yielded, and loses nothing that is buffered.
@@ -20,7 +20,9 @@ where
     /// Draws each source of which nothing is buffered, in order, up to the first that fails. Then it compares at each branch where both sides have an item, and yields the item that goes first; the others stay buffered. Each fold draws so too.
     fn next(&mut self) -> Result<Option<I::Item>, I::Error> {
         let mut in_order = |x: &I::Item, y: &I::Item| -> Result<bool, I::Error> { Ok(x <= y) };
-        give(&mut self.tree, &mut None, &mut in_order)
+        let mut place = None;
+        draw_into(&mut self.tree, &mut place, &mut in_order)?;
+        Ok(place)
     }
 
     fn size_hint(&self) -> (usize, Option<usize>) {
