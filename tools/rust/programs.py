@@ -1,19 +1,15 @@
 """The crates of programs: what readers and programs share, tokens of JSON, rows of PostgreSQL, and a package with the programs. Memory may
-be refused in them (`refusing.py`), and what needs std in the first three stands behind a feature (`features.py`)."""
+be refused in them (`otherwise.py`), and what needs std in the first three stands behind a feature (`features.py`)."""
 import re
 from pathlib import Path
 
 import bodies
 import compare
-import counters
 import erase
-import failing
-import older
+import otherwise
 import page
-import refusing
-from examples import use_names
 from features import Crate
-from source import Refused, Text, functions, read
+from source import Refused, Text, functions, read, use_names
 
 STATIC = Path(__file__).parent / "static"
 # The crates, each with the Rattle libraries that it is made of, and its programs.
@@ -44,7 +40,7 @@ extern crate std;
 # What a `no_std` file imports that Rattle has in scope.
 PRELUDE = {"Vec": "alloc::vec::Vec", "String": "alloc::string::String", "Box": "alloc::boxed::Box", "ToString": "alloc::string::ToString"}
 # Traits, whose import no line need name.
-TRAITS = {"Read", "Write", "BufRead", "Seek", "FromStr", "ToString", "OpenFile", *refusing.TRAITS}
+TRAITS = {"Read", "Write", "BufRead", "Seek", "FromStr", "ToString", "OpenFile", *otherwise.TRAITS}
 # Of what any `fallible-iterator` shows.
 SHOWN = [(r"\.draw\(\)", ".next()"), (r"\.draw_back\(\)", ".next_back()"), (r"\bconvert_fused\b", "convert")]
 WORD = [
@@ -182,14 +178,14 @@ def made(top, crate, name, docs, home, no_std):
     for text in files.values():
         erase.erase(text)
     why = bodies.to_rust(crate, files, name)
-    owned, whole = refusing.own_methods(files.values()), "\n".join(text.s for text in files.values())
+    owned, whole = otherwise.own_methods(files.values()), "\n".join(text.s for text in files.values())
     for text in files.values():
-        counters.of_file(text)
-    refusing.to_rust(files, home)
+        erase.numbers_of_file(text)
+    otherwise.refusing(files, home)
     traits = TRAITS | set(re.findall(r"\btrait (\w+)", "\n".join(p.read_text(encoding="utf-8") for p in (top / "crates").glob("*/src/**/*.rt"))))
     for text in files.values():
-        failing.to_rust(text, home)
-        older.to_rust(text)
+        otherwise.failing(text, home)
+        otherwise.older(text)
         of_std(text, no_std)
     whole = re.sub(r"^use [^;]*;", "", "\n".join(text.s for text in files.values()), flags=re.M)
     for text in files.values():
@@ -204,9 +200,9 @@ def made(top, crate, name, docs, home, no_std):
 
 def renamed(path, s, owned, whole, home):
     """A proved file as it is but for allocators and names."""
-    text = Text(path, refusing.renamed(path, s, owned, whole))
-    failing.to_rust(text, home)
-    older.to_rust(text)
+    text = Text(path, otherwise.renamed(path, s, owned, whole))
+    otherwise.failing(text, home)
+    otherwise.older(text)
     replaced(text, SHOWN + RENAMED + [(r"^fn main\(rt: HostRuntime\)", "fn started(rt: HostRuntime)")])
     return text.s
 

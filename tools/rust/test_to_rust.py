@@ -21,10 +21,8 @@ LOADER.exec_module(TO_RUST)
 TO_RUST.formatted = lambda files: files
 CORE = "crates/fallible_core/src/"
 
-import failing
 import features
-import older
-import refusing
+import otherwise
 from source import Text
 
 
@@ -239,7 +237,7 @@ class Programs(unittest.TestCase):
             "use std::alloc::{AllocError, Global};\n\nstruct Held {\n    alloc: Global,\n    bytes: Vec<u8>,\n    own: Own,\n}\n\nimpl Own {\n    fn push(&mut self, byte: u8) {}\n}\n\n"
             "fn hold(alloc: Global, held: &mut Held) -> Result<(), AllocError> {\n    held.bytes.push(1)?;\n    held.own.push(2);\n"
             "    let mut made = Vec::from_slice(alloc, b\"\")?;\n    made.push(3)?;\n    more(alloc, &mut made)\n}\n"))
-        refusing.to_rust({"of.rs": text}, "crate")
+        otherwise.refusing({"of.rs": text}, "crate")
         for line in ("held.bytes.try_push(1)?;", "held.own.push(2);", "made.try_push(3)?;", "more(&mut made)", "fn hold(held: &mut Held)",
                      "use crate::memory::{AllocError, TryVec};"):
             self.assertIn(line, text.s)
@@ -250,8 +248,8 @@ class Programs(unittest.TestCase):
             "#[derive(Clone, Copy, Debug)]\npub enum Broken {\n    /// A read failed.\n    Read,\n}\n\n"
             "fn of(it: Result<u8, u8>) -> Result<u8, Broken> {\n    let Some(x) = two(it) else {\n        return Err(Broken::Read);\n    };\n"
             "    match it {\n        Ok(_) => Ok(x),\n        Err(_) => Err(Broken::Read),\n    }\n}\n"))
-        failing.to_rust(text, "crate")
-        older.to_rust(text)
+        otherwise.failing(text, "crate")
+        otherwise.older(text)
         for line in ("#[derive(Debug)]\npub enum Broken", "Read(crate::failed::ReadFailed),", "Err(failed) => Err(Broken::Read(failed)),",
                      "let x = match two(it) { Some(x) => x, _ => {", "return Err(Broken::Read(crate::failed::ReadFailed::new()));"):
             self.assertIn(line, text.s)
