@@ -86,22 +86,21 @@ def clause(text):
 
 
 SHOWN = "release/examples/src"
-# Traits, which no line names, and of those that not each example calls the calls.
-TRAITS = re.compile(r"PeekingNext|(DoubleEnded)?Fallible\w+|\w+Ext")
+# Traits, which no line names: those whose calls are read from their source, and those whose calls stand here.
+READ = {"DoubleEndedFallibleItertools", "FallibleIterator", "FallibleItertools", "PeekingNext"}
 CALLS = {
     "IteratorExt": r"\binto_fallible\b|\btranspose_into_fallible\b",
-    "DoubleEndedFallibleIterator": r"\bnext_back\b|\brev\b|\bt?r?y?_?rfold\b|\bdraw_(back|front)\b",
+    "IntoFallibleIterator": r"\binto_fallible_iter\b",
+    "DoubleEndedFallibleIterator": r"\.(?:next_back|t?r?y?_?rfold|draw_(?:back|front))\b",
 }
-# Those whose calls are read from their source.
-READ = {"DoubleEndedFallibleItertools", "FallibleItertools", "PeekingNext"}
 
 
 @lru_cache(maxsize=None)
 def calls(trait):
-    """A pattern of the calls that a trait of `fallible-itertools` has."""
-    found = {f.name for path in (Path(__file__).resolve().parents[2] / "crates").glob("fallible_itertools*/src/**/*.rt")
+    """A pattern of the calls that a trait has, but of std's on an item: that has a name of one letter, or is compared with a term."""
+    found = {f.name for path in (Path(__file__).resolve().parents[2] / "crates").glob("fallible_*/src/**/*.rt")
              for f in functions(path.read_text(encoding="utf-8")) if f.label == trait}
-    return r"\b(?:%s)\b" % "|".join(sorted(found))
+    return r"(?<!\b\w)\.(?:%s)\b(?!\(&\()" % "|".join(sorted(found))
 
 
 def dedented(lines):
@@ -143,7 +142,6 @@ def doc_test(shown, lines, at):
 
 
 def imported(name, words, want):
-    """Whether the lines need an import: they have its name or, of a trait, one of its calls."""
-    if name in READ:
-        return re.search(calls(name), want)
-    return re.search(CALLS[name], want) if name in CALLS else name in words or TRAITS.fullmatch(name)
+    """Whether the lines need an import: they have its name, but not behind a path's, or of a trait one of its calls."""
+    pattern = calls(name) if name in READ else CALLS.get(name)
+    return name in words and re.search(r"(?<!::)\b%s\b" % name, want) or pattern and re.search(pattern, want)

@@ -286,13 +286,13 @@ def needed(files, crate):
                      if name in names and name != crate.replace("-", "_"))
 
 
-def every_file(top, docs, words):
-    """All files of these crates by path, and of each how its bodies compare."""
+def every_file(top, docs, below):
+    """All files of these crates by path, and of each how its bodies compare. `below` names the proved crates below all of them."""
     out, same, outside = {}, {}, set()
     for crate in CRATES:
         files, same[crate] = package(top, docs) if crate == PACKAGE else library(top, crate, docs, outside)
         if crate in CONTRACTS:
-            files["src/words.rs"] = words
+            files["src/words.rs"] = page.words(top, files, [LIBRARIES[crate], "program_io", *below])
         for path in sorted((STATIC / crate).rglob("*")):
             rel = str(path.relative_to(STATIC / crate))
             if path.is_file() and rel.removesuffix(".in") not in files:

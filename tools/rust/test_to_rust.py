@@ -34,7 +34,8 @@ class Refusals(unittest.TestCase):
             shutil.copytree(path, self.tree / path.relative_to(TOP))
         shutil.copy(TOP / "LICENSE", self.tree)
         (self.tree / "docs").mkdir()
-        shutil.copy(TOP / "docs/CALLING.md", self.tree / "docs")
+        for name in ("CALLING", "READING"):
+            shutil.copy(TOP / f"docs/{name}.md", self.tree / "docs")
 
     def tearDown(self):
         shutil.rmtree(self.folder)

@@ -448,7 +448,7 @@ pub trait FallibleItertools: FallibleIterator + Sized {
     /// Precondition, which is not checked: the iterator is finite.
     ///
     /// ```
-    /// # use fallible_iterator::{FallibleIterator, convert};
+    /// # use fallible_iterator::{convert};
     /// # use fallible_itertools::FallibleItertools;
     /// let mut it = convert([Ok::<u32, &str>(0), Ok(7), Ok(150)].into_iter());
     /// let mut find = || -> Result<Option<u32>, &str> {
@@ -503,7 +503,7 @@ pub trait FallibleItertools: FallibleIterator + Sized {
     /// Precondition, which is not checked: at most `usize::MAX` items are left, so that each position fits.
     ///
     /// ```
-    /// # use fallible_iterator::{FallibleIterator, convert};
+    /// # use fallible_iterator::{convert};
     /// # use fallible_itertools::FallibleItertools;
     /// let mut it = convert([Ok::<u32, &str>(0), Ok(7), Ok(150)].into_iter());
     /// let mut place = || -> Result<Option<usize>, &str> {
@@ -555,7 +555,7 @@ pub trait FallibleItertools: FallibleIterator + Sized {
     /// Precondition, which is not checked: the iterator is finite.
     ///
     /// ```
-    /// # use fallible_iterator::{FallibleIterator, convert};
+    /// # use fallible_iterator::{convert};
     /// # use fallible_itertools::FallibleItertools;
     /// let mut it = convert([Ok::<u32, u8>(150), Ok(7), Ok(700), Err(9)].into_iter());
     /// assert_eq!(it.contains(&7), Ok(true));
@@ -595,7 +595,7 @@ pub trait FallibleItertools: FallibleIterator + Sized {
     /// Precondition, which is not checked: the iterator is finite.
     ///
     /// ```
-    /// # use fallible_iterator::{FallibleIterator, convert};
+    /// # use fallible_iterator::{convert};
     /// # use fallible_itertools::FallibleItertools;
     /// let mut it = convert([Ok::<u32, u8>(7), Ok(7), Ok(150), Ok(8)].into_iter());
     /// assert_eq!(it.all_equal(), Ok(false));
@@ -635,7 +635,7 @@ pub trait FallibleItertools: FallibleIterator + Sized {
     /// Precondition, which is not checked: the iterator is finite.
     ///
     /// ```
-    /// # use fallible_iterator::{FallibleIterator, convert};
+    /// # use fallible_iterator::{convert};
     /// # use fallible_itertools::FallibleItertools;
     /// let mut it = convert([Ok::<u32, u8>(7), Ok(150), Ok(7), Ok(8)].into_iter());
     /// assert!(!it.all_unique()?);
@@ -679,7 +679,7 @@ pub trait FallibleItertools: FallibleIterator + Sized {
     /// Precondition, which is not checked: the iterator is finite.
     ///
     /// ```
-    /// # use fallible_iterator::{FallibleIterator, convert};
+    /// # use fallible_iterator::{convert};
     /// # use fallible_itertools::FallibleItertools;
     /// let mut it = convert([Ok::<u32, u8>(7), Ok(7), Ok(150), Ok(8)].into_iter());
     /// assert_eq!(it.all_equal_value(), Ok(Err(Some((7, 150)))));
@@ -766,7 +766,7 @@ pub trait FallibleItertools: FallibleIterator + Sized {
     /// Precondition, which is not checked: the iterator is finite.
     ///
     /// ```
-    /// # use fallible_iterator::{FallibleIterator, convert};
+    /// # use fallible_iterator::{convert};
     /// # use fallible_itertools::FallibleItertools;
     /// let readings = [Ok::<u32, u8>(7), Ok(150), Ok(8)];
     /// let it = convert(readings.into_iter());
@@ -809,7 +809,7 @@ pub trait FallibleItertools: FallibleIterator + Sized {
     /// Draws, errors and precondition: as `find_or_last`. It consumes the iterator too.
     ///
     /// ```
-    /// # use fallible_iterator::{FallibleIterator, convert};
+    /// # use fallible_iterator::{convert};
     /// # use fallible_itertools::FallibleItertools;
     /// let readings = [Ok::<u32, u8>(7), Ok(150), Ok(8)];
     /// let it = convert(readings.into_iter());
@@ -854,7 +854,7 @@ pub trait FallibleItertools: FallibleIterator + Sized {
     /// Precondition, which is not checked: the iterator is finite.
     ///
     /// ```
-    /// # use fallible_iterator::{FallibleIterator, convert};
+    /// # use fallible_iterator::{convert};
     /// # use fallible_itertools::FallibleItertools;
     /// let readings = [Ok::<u8, u8>(150), Ok(7)];
     /// assert_eq!(convert(readings.into_iter()).checked_sum(), Ok(Some(157)));
@@ -889,7 +889,7 @@ pub trait FallibleItertools: FallibleIterator + Sized {
     /// Draws, errors and precondition: as `checked_sum`. It consumes the iterator too.
     ///
     /// ```
-    /// # use fallible_iterator::{FallibleIterator, convert};
+    /// # use fallible_iterator::{convert};
     /// # use fallible_itertools::FallibleItertools;
     /// let sides = [Ok::<u8, u8>(3), Ok(7)];
     /// assert_eq!(convert(sides.into_iter()).checked_product(), Ok(Some(21)));
@@ -929,7 +929,7 @@ pub trait FallibleItertools: FallibleIterator + Sized {
     /// Precondition, which is not checked: the iterator is finite.
     ///
     /// ```
-    /// # use fallible_iterator::{FallibleIterator, convert};
+    /// # use fallible_iterator::{convert};
     /// # use fallible_itertools::FallibleItertools;
     /// let prices = [Ok::<f64, u8>(1.5), Ok(0.25), Ok(2.0)];
     /// assert_eq!(convert(prices.into_iter()).sum::<f64>(), Ok(3.75));
@@ -958,7 +958,7 @@ pub trait FallibleItertools: FallibleIterator + Sized {
     /// Types, draws, errors and precondition: as `sum`. It consumes the iterator too.
     ///
     /// ```
-    /// # use fallible_iterator::{FallibleIterator, convert};
+    /// # use fallible_iterator::{convert};
     /// # use fallible_itertools::FallibleItertools;
     /// let rates = [Ok::<f64, u8>(1.5), Ok(0.5), Ok(2.0)];
     /// assert_eq!(convert(rates.into_iter()).product::<f64>(), Ok(1.5));
@@ -1043,7 +1043,7 @@ pub trait FallibleItertools: FallibleIterator + Sized {
     /// Precondition, which is not checked: the iterator is finite.
     ///
     /// ```
-    /// # use fallible_iterator::{FallibleIterator, convert};
+    /// # use fallible_iterator::{convert};
     /// # use fallible_itertools::FallibleItertools;
     /// let readings = [Ok::<u32, u8>(150), Ok(7), Ok(8)];
     /// let it = convert(readings.into_iter());
@@ -1084,7 +1084,7 @@ pub trait FallibleItertools: FallibleIterator + Sized {
     /// Precondition, which is not checked: the iterator is finite.
     ///
     /// ```
-    /// # use fallible_iterator::{FallibleIterator, convert};
+    /// # use fallible_iterator::{convert};
     /// # use fallible_itertools::FallibleItertools;
     /// let readings = [Ok::<u32, u8>(150), Ok(7), Ok(8)];
     /// let it = convert(readings.into_iter());
@@ -1121,7 +1121,7 @@ pub trait FallibleItertools: FallibleIterator + Sized {
     /// Precondition, which is not checked: the iterator is finite.
     ///
     /// ```
-    /// # use fallible_iterator::{FallibleIterator, convert};
+    /// # use fallible_iterator::{convert};
     /// # use fallible_itertools::FallibleItertools;
     /// let readings = [Ok::<u32, u8>(7), Ok(7), Ok(150)];
     /// assert_eq!(convert(readings.into_iter()).is_sorted(), Ok(true));
@@ -1765,7 +1765,7 @@ pub trait FallibleItertools: FallibleIterator + Sized {
     /// It draws at most twice: up to `Ok(None)`, a failure or the second item. It fails with that failure, and drops an item that came before it. Nothing is drawn after that, and the iterator may be used again.
     ///
     /// ```
-    /// # use fallible_iterator::{FallibleIterator, convert};
+    /// # use fallible_iterator::{convert};
     /// # use fallible_itertools::FallibleItertools;
     /// let one = [Ok::<u32, u8>(150)];
     /// assert_eq!(convert(one.into_iter()).at_most_one(), Ok(Ok(Some(150))));
@@ -1811,7 +1811,7 @@ pub trait FallibleItertools: FallibleIterator + Sized {
     /// Draws, errors, precondition and what is left: as `at_most_one`.
     ///
     /// ```
-    /// # use fallible_iterator::{FallibleIterator, convert};
+    /// # use fallible_iterator::{convert};
     /// # use fallible_itertools::FallibleItertools;
     /// # use fallible_itertools::NotOne;
     /// let one = [Ok::<u32, u8>(150)];
@@ -1858,7 +1858,7 @@ pub trait FallibleItertools: FallibleIterator + Sized {
     /// Precondition, which is not checked: the iterator is finite, and at most `usize::MAX` items are left, so that each position fits.
     ///
     /// ```
-    /// # use fallible_iterator::{FallibleIterator, convert};
+    /// # use fallible_iterator::{convert};
     /// # use fallible_itertools::FallibleItertools;
     /// let readings = [Ok::<u32, u8>(150), Ok(7), Ok(150), Ok(8)];
     /// assert_eq!(convert(readings.into_iter()).position_max(), Ok(Some(2)));
@@ -1892,7 +1892,7 @@ pub trait FallibleItertools: FallibleIterator + Sized {
     /// Draws, errors and precondition: as `position_max`. It consumes the iterator too.
     ///
     /// ```
-    /// # use fallible_iterator::{FallibleIterator, convert};
+    /// # use fallible_iterator::{convert};
     /// # use fallible_itertools::FallibleItertools;
     /// let readings = [Ok::<u32, u8>(150), Ok(7), Ok(8), Ok(7)];
     /// assert_eq!(convert(readings.into_iter()).position_min(), Ok(Some(1)));
@@ -1930,7 +1930,7 @@ pub trait FallibleItertools: FallibleIterator + Sized {
     /// Precondition, which is not checked: the iterator is finite.
     ///
     /// ```
-    /// # use fallible_iterator::{FallibleIterator, convert};
+    /// # use fallible_iterator::{convert};
     /// # use fallible_itertools::FallibleItertools;
     /// # use fallible_itertools::MinMaxResult;
     /// let readings = [Ok::<u32, u8>(150), Ok(7), Ok(700)];
@@ -1982,7 +1982,7 @@ pub trait FallibleItertools: FallibleIterator + Sized {
     /// Precondition, which is not checked: the iterator is finite.
     ///
     /// ```
-    /// # use fallible_iterator::{FallibleIterator, convert};
+    /// # use fallible_iterator::{convert};
     /// # use fallible_itertools::FallibleItertools;
     /// # use fallible_itertools::MinMaxResult;
     /// let pairs = [Ok::<(u32, char), u8>((3, 'a')), Ok((1, 'b')), Ok((3, 'c')), Ok((1, 'd'))];
@@ -2024,7 +2024,7 @@ pub trait FallibleItertools: FallibleIterator + Sized {
     /// Precondition, which is not checked: the iterator is finite.
     ///
     /// ```
-    /// # use fallible_iterator::{FallibleIterator, convert};
+    /// # use fallible_iterator::{convert};
     /// # use fallible_itertools::FallibleItertools;
     /// # use fallible_itertools::MinMaxResult;
     /// let words = [Ok::<&str, u8>("to"), Ok("the"), Ok("sea"), Ok("at")];
@@ -2066,7 +2066,7 @@ pub trait FallibleItertools: FallibleIterator + Sized {
     /// Precondition, which is not checked: at most `usize::MAX` items are left, so that each number fits.
     ///
     /// ```
-    /// # use fallible_iterator::{FallibleIterator, convert};
+    /// # use fallible_iterator::{convert};
     /// # use fallible_itertools::FallibleItertools;
     /// let readings = [Ok::<u32, u8>(7), Ok(150), Ok(7)];
     /// let counts = convert(readings.into_iter()).counts()?;
@@ -2112,7 +2112,7 @@ pub trait FallibleItertools: FallibleIterator + Sized {
     /// Precondition, which is not checked: at most `usize::MAX` items are left, so that each number fits.
     ///
     /// ```
-    /// # use fallible_iterator::{FallibleIterator, convert};
+    /// # use fallible_iterator::{convert};
     /// # use fallible_itertools::FallibleItertools;
     /// let readings = [Ok::<u32, u8>(150), Ok(7), Ok(157)];
     /// let counts = convert(readings.into_iter()).counts_by(|reading: u32| Ok(
@@ -2157,7 +2157,7 @@ pub trait FallibleItertools: FallibleIterator + Sized {
     /// Precondition, which is not checked: the iterator is finite.
     ///
     /// ```
-    /// # use fallible_iterator::{FallibleIterator, convert};
+    /// # use fallible_iterator::{convert};
     /// # use fallible_itertools::FallibleItertools;
     /// let pairs = [Ok::<(char, u32), u8>(('a', 1)), Ok(('b', 2)), Ok(('a', 3))];
     /// let groups = convert(pairs.into_iter()).into_group_map()?;
@@ -2246,7 +2246,7 @@ pub trait FallibleItertools: FallibleIterator + Sized {
     /// Precondition, which is not checked: the iterator is finite.
     ///
     /// ```
-    /// # use fallible_iterator::{FallibleIterator, convert};
+    /// # use fallible_iterator::{convert};
     /// # use fallible_itertools::FallibleItertools;
     /// let readings = [Ok::<u32, u8>(150), Ok(7), Ok(157)];
     /// let groups = convert(readings.into_iter()).into_group_map_by(|reading: &u32| Ok(
@@ -2293,7 +2293,7 @@ pub trait FallibleItertools: FallibleIterator + Sized {
     /// Precondition, which is not checked: the iterator is finite.
     ///
     /// ```
-    /// # use fallible_iterator::{FallibleIterator, convert};
+    /// # use fallible_iterator::{convert};
     /// # use fallible_itertools::FallibleItertools;
     /// let readings = [Ok::<u32, u8>(150), Ok(7), Ok(157)];
     /// let sums = convert(readings.into_iter()).fold_by_key(|reading: &u32| Ok(*reading / 100),
@@ -2355,7 +2355,7 @@ pub trait FallibleItertools: FallibleIterator + Sized {
     /// Precondition, which is not checked: the iterator is finite.
     ///
     /// ```
-    /// # use fallible_iterator::{FallibleIterator, convert};
+    /// # use fallible_iterator::{convert};
     /// # use fallible_itertools::Either;
     /// # use fallible_itertools::FallibleItertools;
     /// let readings = [Ok::<u32, u8>(150), Ok(7), Ok(700)];
@@ -2407,7 +2407,7 @@ pub trait FallibleItertools: FallibleIterator + Sized {
     /// Precondition, which is not checked: the iterator is finite.
     ///
     /// ```
-    /// # use fallible_iterator::{FallibleIterator, convert};
+    /// # use fallible_iterator::{convert};
     /// # use fallible_itertools::FallibleItertools;
     /// let readings = [Ok::<u32, u8>(150), Err(9), Ok(7), Err(8)];
     /// let (items, failures): (Vec<u32>, Vec<u8>) = convert(readings.into_iter()).partition_failures();
@@ -2449,7 +2449,7 @@ pub trait FallibleItertools: FallibleIterator + Sized {
     /// Precondition, which is not checked: the iterator is finite.
     ///
     /// ```
-    /// # use fallible_iterator::{FallibleIterator, convert};
+    /// # use fallible_iterator::{convert};
     /// # use fallible_itertools::FallibleItertools;
     /// let readings = [Ok::<u32, u8>(150), Ok(7), Ok(700)];
     /// let sorted = convert(readings.into_iter()).sorted()?;
@@ -2489,7 +2489,7 @@ pub trait FallibleItertools: FallibleIterator + Sized {
     /// Precondition, which is not checked: the iterator is finite.
     ///
     /// ```
-    /// # use fallible_iterator::{FallibleIterator, convert};
+    /// # use fallible_iterator::{convert};
     /// # use fallible_itertools::FallibleItertools;
     /// let readings = [Ok::<u32, u8>(150), Ok(7), Ok(700)];
     /// let falling = convert(readings.into_iter()).sorted_by(|x: &u32, y: &u32| y.cmp(x),
@@ -2539,7 +2539,7 @@ pub trait FallibleItertools: FallibleIterator + Sized {
     /// Precondition, which is not checked: the iterator is finite.
     ///
     /// ```
-    /// # use fallible_iterator::{FallibleIterator, convert};
+    /// # use fallible_iterator::{convert};
     /// # use fallible_itertools::FallibleItertools;
     /// let words = [Ok::<&str, u8>("the"), Ok("sea"), Ok("is")];
     /// let sorted = convert(words.into_iter()).sorted_by_key(|word: &&str| word.len())?;
@@ -2587,7 +2587,7 @@ pub trait FallibleItertools: FallibleIterator + Sized {
     /// Precondition, which is not checked: the iterator is finite.
     ///
     /// ```
-    /// # use fallible_iterator::{FallibleIterator, convert};
+    /// # use fallible_iterator::{convert};
     /// # use fallible_itertools::FallibleItertools;
     /// let readings = [Ok::<u32, u8>(150), Ok(7), Ok(700)];
     /// let sorted = convert(readings.into_iter()).sorted_unstable()?;
@@ -2627,7 +2627,7 @@ pub trait FallibleItertools: FallibleIterator + Sized {
     /// Precondition, which is not checked: the iterator is finite.
     ///
     /// ```
-    /// # use fallible_iterator::{FallibleIterator, convert};
+    /// # use fallible_iterator::{convert};
     /// # use fallible_itertools::FallibleItertools;
     /// let readings = [Ok::<u32, u8>(150), Ok(7), Ok(700)];
     /// let falling = convert(readings.into_iter()).sorted_unstable_by(|x: &u32, y: &u32| y.cmp(x),
@@ -2677,7 +2677,7 @@ pub trait FallibleItertools: FallibleIterator + Sized {
     /// Precondition, which is not checked: the iterator is finite.
     ///
     /// ```
-    /// # use fallible_iterator::{FallibleIterator, convert};
+    /// # use fallible_iterator::{convert};
     /// # use fallible_itertools::FallibleItertools;
     /// let words = [Ok::<&str, u8>("the"), Ok("is"), Ok("calm")];
     /// let sorted = convert(words.into_iter()).sorted_unstable_by_key(|word: &&str| word.len(),
@@ -2728,7 +2728,7 @@ pub trait FallibleItertools: FallibleIterator + Sized {
     /// Precondition, which is not checked: the iterator is finite.
     ///
     /// ```
-    /// # use fallible_iterator::{FallibleIterator, convert};
+    /// # use fallible_iterator::{convert};
     /// # use fallible_itertools::FallibleItertools;
     /// let readings = [Ok::<u32, u8>(150), Ok(7), Ok(700)];
     /// let text = convert(readings.into_iter()).join(", ")?;
@@ -2852,7 +2852,7 @@ pub trait FallibleItertools: FallibleIterator + Sized {
     /// Precondition, which is not checked: one of the two is finite.
     ///
     /// ```
-    /// # use fallible_iterator::{FallibleIterator, convert};
+    /// # use fallible_iterator::{convert};
     /// # use fallible_itertools::FallibleItertools;
     /// # use std::cmp::Ordering;
     /// let left = convert([Ok::<u32, u8>(11), Ok(12)].into_iter());
@@ -2899,7 +2899,7 @@ pub trait FallibleItertools: FallibleIterator + Sized {
     /// Draws, errors and precondition: as `cmp_by`.
     ///
     /// ```
-    /// # use fallible_iterator::{FallibleIterator, convert};
+    /// # use fallible_iterator::{convert};
     /// # use fallible_itertools::FallibleItertools;
     /// let left = convert([Ok::<u32, u8>(11), Ok(12)].into_iter());
     /// let right = convert([Ok(21), Ok(2)].into_iter());
