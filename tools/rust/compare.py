@@ -85,6 +85,8 @@ def compare(files, sources, bodies):
     same, counting, rows, used = 0, 0, defaultdict(list), set()
     for path in sorted({*files, *sources}):
         for name, how, counts in differences(files.get(path, ""), sources.get(path, "")):
+            if how in ("changed", "new"):
+                OTHERS.append((path, name))
             own = bodies.get((path, re.sub(r"[^\w.]", "", name.split(" for ")[-1])))
             if how is None:
                 same += 1
@@ -106,6 +108,8 @@ def compare(files, sources, bodies):
 
 
 USED = set()
+# The bodies that are changed or new, by path and name, since this was last emptied.
+OTHERS = []
 
 
 def listed(rows, of=""):

@@ -58,7 +58,7 @@ class Crates:
         for path, text in texts.items():
             (place / path).write_text(text)
         try:
-            changed = {path: text for path, text in self.written().items() if self.files.get(path) != text}
+            changed = {path: text for path, text in self.written().items() if self.files.get(path, text) != text}
         except Refused as why:
             return None, f"the Rust crates have another body there: {why}"
         finally:
