@@ -108,7 +108,7 @@ def compare(files, sources, bodies):
 
 
 USED = set()
-# The bodies that are changed or new, by path and name, since this was last emptied.
+# The bodies of the last crate that are changed or new, by path and name.
 OTHERS = []
 
 
