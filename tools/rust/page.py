@@ -113,7 +113,7 @@ def leads(out, repository, own_name):
         if rest in ("README.md", "src/words.rs"):
             s = there.sub(r"[`\1`](%s/blob/HEAD/\1)" % repository, s)
         if rest == "README.md":
-            s += "\nThe [repository](%s), the [documentation](https://docs.rs/%s).\n" % (repository, name)
+            s += "\nHere are the [repository](%s) and the [documentation](https://docs.rs/%s).\n" % (repository, name)
         out[path] = s
 
 

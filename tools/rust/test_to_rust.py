@@ -23,6 +23,7 @@ CORE = "crates/fallible_core/src/"
 
 import features
 import otherwise
+import page
 from source import Text
 
 
@@ -220,6 +221,22 @@ class Refusals(unittest.TestCase):
                             self.fail("%s of %s has no %s" % (name, crate, trait))
         self.assertTrue({"KMerge", "KMergeBy", "Tokens", "PlacedBytes", "Texts", "Rows", "Messages", "Cells", "Columns", "Buffered", "Lent",
                          "Bytes", "Peekable"} <= shown, shown)
+
+    def test_a_repository_is_named_where_it_is_given(self):
+        out = {"fallible-iterator/Cargo.toml": 'name = "own"\ndescription = "x"\nreadme = "README.md"\n', "programs/README.md": "`docs/RUST.md` of the repository\n",
+               "pg-login/src/words.rs": "// of one's own\n"}
+        page.leads(out, "https://example.org/a/b", "own")
+        self.assertIn('repository = "https://example.org/a/b"\ndocumentation = "https://docs.rs/own"\n', out["fallible-iterator/Cargo.toml"])
+        self.assertIn("[`docs/RUST.md`](https://example.org/a/b/blob/HEAD/docs/RUST.md) of the repository\n", out["programs/README.md"])
+        self.assertIn("(https://docs.rs/fallible-programs)", out["programs/README.md"])
+        self.assertEqual(out["pg-login/src/words.rs"], "// of one's own\n")
+
+    def test_the_words_of_contracts_are_told_once(self):
+        (self.tree / "crates/below/specs").mkdir(parents=True)
+        (self.tree / "crates/below/specs/Of.antt").write_text("-- a number | twice\nabbrev pub twice : N -> N\ntwice n = n + n\n\n-- unnamed\nabbrev pub other : N\n")
+        said = page.words(self.tree, {"a.rs": "/// ```text\n/// ensures { result = twice n }\n/// ```\n"}, ["below", "below"])
+        self.assertEqual(said.count("| `twice` | a number \\| twice |"), 1)
+        self.assertNotIn("unnamed", said)
 
     def test_a_link_leads_out(self):
         self.out.mkdir()
