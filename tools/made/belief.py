@@ -4,7 +4,7 @@ import re
 
 from made import code
 from made.index import WORD
-from made.tree import LIBRARY
+from made.code import LIBRARY
 
 IMPORTED = re.compile(r"^\s*(?:pub )?use Rattle\.(\w+)\.specs\.([\w.]+)\.\{([^}]*)\}", re.MULTILINE)
 NAME = re.compile(r"(?<![\w.])[A-Za-z_]\w*'?")

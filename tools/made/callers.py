@@ -21,9 +21,8 @@ import collections
 import re
 
 from made import code, receivers
-from made.code import lines_of
 from made.drives import HIDDEN
-from made.tree import LIBRARY, code_of_library
+from made.code import LIBRARY, code_of_library, lines_of
 
 CALLER = re.compile(r"pub fn (\w+)")
 LAW = re.compile(r"^[^/]*\b(law_\w+)\b", re.MULTILINE)

@@ -3,7 +3,7 @@
 import re
 
 from made import code, terms
-from made.tree import code_of_library
+from made.code import code_of_library
 
 CORE, ABOVE = "fallible_core/src", "fallible_iterator/src"
 TOOLS, MADE_OF = "fallible_itertools/src", ("fallible_itertools_adapters/src", "fallible_itertools_joins/src")

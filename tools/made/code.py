@@ -1,9 +1,16 @@
-"""Reads the functions of a `.rt` file: comments, clauses, bodies, and the impl that they stand in."""
+"""Where the library is, and the functions of a `.rt` file: comments, clauses, bodies, and the impl that they stand in."""
 
 import dataclasses
 import functools
+import pathlib
 import re
 
+TOP = pathlib.Path(__file__).resolve().parent.parent.parent
+CRATES = TOP / "crates"
+LIBRARY = (
+    "fallible_contract", "fallible_core", "fallible_iterator",
+    "fallible_itertools_adapters", "fallible_itertools_joins", "fallible_itertools",
+)
 FUNCTION = re.compile(r"(\bpub )?(?:final )?\bfn (\w+)")
 CLAUSE = re.compile(r"\b(ensures|requires)(?: (\w+))?\s*\{")
 OWNER = re.compile(r"^(?:pub )?(impl|trait)\b", re.MULTILINE)
@@ -167,3 +174,8 @@ def arguments(parameters):
     parts = split_at(parameters[1:-1].replace("->", ""), ",", "([{<", ")]}>")
     names = [part.split(":")[0].strip().removeprefix("mut ") for part in parts]
     return [name for name in names if name and not name.endswith("self")]
+
+
+def code_of_library(crates):
+    """The files of code of the library."""
+    return [path for crate in LIBRARY for path in sorted((crates / crate / "src").rglob("*.rt"))]

@@ -3,7 +3,7 @@
 import re
 
 from made import code
-from made.tree import code_of_library
+from made.code import code_of_library
 
 HIDDEN = ("drive", "drive_back", "drive_to")
 CALLED = re.compile(r"(?:(\(\*\*self\)|[\w.]+?)\.)?\b([a-z_]\w*)(?:::<[^()]*>)?\(")

@@ -3,7 +3,7 @@
 import re
 
 from made import code
-from made.tree import LIBRARY
+from made.code import LIBRARY
 
 PLACES = (
     ("fallible_core", "headline.rt"), ("fallible_iterator", "laws/**/*.rt"),

@@ -4,8 +4,7 @@ Left out are the goals that lemmas of the type's own close, those of a file that
 
 import re
 
-from made.code import lines_of
-from made.tree import LIBRARY
+from made.code import LIBRARY, lines_of
 
 SIBLINGS = {
     "terms of what passes": ["copied", "unique", "tuples", "inspect_err", "or_else"],

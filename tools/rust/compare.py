@@ -2,7 +2,7 @@
 import re
 from collections import defaultdict
 
-import counters
+import erase
 from source import Refused, code, functions
 
 # What is not word for word the proved body and no file of `bodies`: the file, the function, what, and why. Each row is used.
@@ -62,7 +62,7 @@ def by_name(s):
 
 def body(s, f):
     """A function's body, or none where it has none. What only counts down is no part of it."""
-    return None if f.open is None else counters.without(f.name, s[f.start:f.open], s[f.open:f.end])
+    return None if f.open is None else erase.without_numbers(f.name, s[f.start:f.open], s[f.open:f.end])
 
 
 def differences(written, source):
@@ -85,6 +85,8 @@ def compare(files, sources, bodies):
     same, counting, rows, used = 0, 0, defaultdict(list), set()
     for path in sorted({*files, *sources}):
         for name, how, counts in differences(files.get(path, ""), sources.get(path, "")):
+            if how in ("changed", "new"):
+                OTHERS.append((path, name))
             own = bodies.get((path, re.sub(r"[^\w.]", "", name.split(" for ")[-1])))
             if how is None:
                 same += 1
@@ -106,6 +108,8 @@ def compare(files, sources, bodies):
 
 
 USED = set()
+# The bodies of the last crate that are changed or new, by path and name.
+OTHERS = []
 
 
 def listed(rows, of=""):

@@ -1,8 +1,11 @@
-"""Documentation: paragraphs by their kind, examples as doc tests, and the clauses under *Contract*."""
+"""Documentation: paragraphs by their kind, the clauses under *Contract*, and examples as doc tests: the lines of a test of
+`release/examples`, below what they import."""
 import re
+from functools import lru_cache
+from pathlib import Path
 
-from source import Refused, functions
-from examples import doc_test
+from source import Refused, Text, functions, read, tokens, use_names
+from suite import as_rust
 
 # The kinds of paragraphs, by how they begin, and how they do in Rust. Those with none are of Rattle alone, and go whole.
 KINDS = {"Requires:": None, "Memory:": None, "Proof:": None, "Precondition:": "Precondition, which is not checked:"}
@@ -80,3 +83,65 @@ def clause(text):
     """A clause's lines, indented by itself."""
     first, *rest = [x.strip() for x in text.split("\n")]
     return [first, *("    " + x for x in rest)]
+
+
+SHOWN = "release/examples/src"
+# Traits, which no line names: those whose calls are read from their source, and those whose calls stand here.
+READ = {"DoubleEndedFallibleItertools", "FallibleIterator", "FallibleItertools", "PeekingNext"}
+CALLS = {
+    "IteratorExt": r"\binto_fallible\b|\btranspose_into_fallible\b",
+    "IntoFallibleIterator": r"\binto_fallible_iter\b",
+    "DoubleEndedFallibleIterator": r"\.(?:next_back|t?r?y?_?rfold|draw_(?:back|front))\b",
+}
+
+
+@lru_cache(maxsize=None)
+def calls(trait):
+    """A pattern of the calls that a trait has, but of std's on an item: that has a name of one letter, or is compared with a term."""
+    found = {f.name for path in (Path(__file__).resolve().parents[2] / "crates").glob("fallible_*/src/**/*.rt")
+             for f in functions(path.read_text(encoding="utf-8")) if f.label == trait}
+    return r"(?<!\b\w)\.(?:%s)\b(?!\(&\()" % "|".join(sorted(found))
+
+
+def dedented(lines):
+    """The lines without the indentation that all of them share."""
+    shared = min((len(x) - len(x.lstrip()) for x in lines if x.strip()), default=0)
+    return [x[shared:].rstrip() for x in lines]
+
+
+def example_files(top):
+    """The files of examples."""
+    return [read(path, "%s/%s" % (SHOWN, path.name)).s for path in sorted((top / SHOWN).glob("*.rt.txt"))]
+
+
+def stand(lines, s):
+    """Whether the lines stand in a file, one after another."""
+    if not all(x in s for x in lines):
+        return False
+    have = s.split("\n")
+    return any(dedented(have[i:i + len(lines)]) == lines for i in range(len(have) - len(lines) + 1))
+
+
+def doc_test(shown, lines, at):
+    """The lines of a doc test: the example as it is in Rust, and hidden what it imports. `at` is where the example stands."""
+    lines = dedented(lines)
+    s = next((s for s in shown if stand(lines, s)), None)
+    if s is None:
+        raise Refused("%s: examples: no file of %s has these lines" % (at, SHOWN))
+    text = Text(at, "\n".join(lines) + "\n")
+    as_rust(text)
+    # No call of Rust asks its failures to tell of memory.
+    want = re.sub(r"\bAllocError\b", "u8", text.s.strip("\n"))
+    words = {t.text for t in tokens(want)}
+    paths = sorted(p for p in use_names(s) if imported(p.split("::")[-1], words, want))
+    hub = [p.split("::")[1] for p in paths if re.fullmatch(r"fallible_iterator::\w+", p)]
+    before = ["use fallible_iterator::{%s};" % ", ".join(hub)] if hub else []
+    before += ["use %s;" % p for p in paths if not re.fullmatch(r"fallible_iterator::\w+", p)]
+    after = ["Ok::<(), u8>(())"] if "?" in want else []
+    return ["# " + x for x in before] + dedented(want.split("\n")) + ["# " + x for x in after]
+
+
+def imported(name, words, want):
+    """Whether the lines need an import: they have its name, but not behind a path's, or of a trait one of its calls."""
+    pattern = calls(name) if name in READ else CALLS.get(name)
+    return name in words and re.search(r"(?<!::)\b%s\b" % name, want) or pattern and re.search(pattern, want)

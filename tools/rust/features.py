@@ -4,8 +4,7 @@ import re
 from collections import namedtuple
 from pathlib import Path
 
-from examples import use_names
-from source import after_braces, functions
+from source import functions, use_names
 
 STD = re.compile(r"std::(?:io|env|fs|process|net|time|error|os|thread)\b")
 CFG = '#[cfg(feature = "std")]\n'

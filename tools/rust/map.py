@@ -10,6 +10,8 @@ HEAD = """#![doc = include_str!("../README.md")]
 #![cfg_attr(docsrs, feature(doc_cfg))]
 #![forbid(unsafe_code)]
 #![warn(missing_docs)]
+// An example imports what its lines use.
+#![doc(test(attr(deny(unused_imports))))]
 // The bodies stay as they are proved.
 #![allow(clippy::manual_map, clippy::mem_replace_option_with_some, clippy::multiple_bound_locations)]
 #![allow(clippy::needless_match, clippy::question_mark, clippy::single_match)]

@@ -1,19 +1,15 @@
 """The crates of programs: what readers and programs share, tokens of JSON, rows of PostgreSQL, and a package with the programs. Memory may
-be refused in them (`refusing.py`), and what needs std in the first three stands behind a feature (`features.py`)."""
+be refused in them (`otherwise.py`), and what needs std in the first three stands behind a feature (`features.py`)."""
 import re
 from pathlib import Path
 
 import bodies
 import compare
-import counters
 import erase
-import failing
-import older
+import otherwise
 import page
-import refusing
-from examples import use_names
 from features import Crate
-from source import Refused, Text, functions, read
+from source import Refused, Text, functions, read, use_names
 
 STATIC = Path(__file__).parent / "static"
 # The crates, each with the Rattle libraries that it is made of, and its programs.
@@ -44,7 +40,7 @@ extern crate std;
 # What a `no_std` file imports that Rattle has in scope.
 PRELUDE = {"Vec": "alloc::vec::Vec", "String": "alloc::string::String", "Box": "alloc::boxed::Box", "ToString": "alloc::string::ToString"}
 # Traits, whose import no line need name.
-TRAITS = {"Read", "Write", "BufRead", "Seek", "FromStr", "ToString", "OpenFile", *refusing.TRAITS}
+TRAITS = {"Read", "Write", "BufRead", "Seek", "FromStr", "ToString", "OpenFile", *otherwise.TRAITS}
 # Of what any `fallible-iterator` shows.
 SHOWN = [(r"\.draw\(\)", ".next()"), (r"\.draw_back\(\)", ".next_back()"), (r"\bconvert_fused\b", "convert")]
 WORD = [
@@ -182,14 +178,14 @@ def made(top, crate, name, docs, home, no_std):
     for text in files.values():
         erase.erase(text)
     why = bodies.to_rust(crate, files, name)
-    owned, whole = refusing.own_methods(files.values()), "\n".join(text.s for text in files.values())
+    owned, whole = otherwise.own_methods(files.values()), "\n".join(text.s for text in files.values())
     for text in files.values():
-        counters.of_file(text)
-    refusing.to_rust(files, home)
+        erase.numbers_of_file(text)
+    otherwise.refusing(files, home)
     traits = TRAITS | set(re.findall(r"\btrait (\w+)", "\n".join(p.read_text(encoding="utf-8") for p in (top / "crates").glob("*/src/**/*.rt"))))
     for text in files.values():
-        failing.to_rust(text, home)
-        older.to_rust(text)
+        otherwise.failing(text, home)
+        otherwise.older(text)
         of_std(text, no_std)
     whole = re.sub(r"^use [^;]*;", "", "\n".join(text.s for text in files.values()), flags=re.M)
     for text in files.values():
@@ -204,9 +200,9 @@ def made(top, crate, name, docs, home, no_std):
 
 def renamed(path, s, owned, whole, home):
     """A proved file as it is but for allocators and names."""
-    text = Text(path, refusing.renamed(path, s, owned, whole))
-    failing.to_rust(text, home)
-    older.to_rust(text)
+    text = Text(path, otherwise.renamed(path, s, owned, whole))
+    otherwise.failing(text, home)
+    otherwise.older(text)
     replaced(text, SHOWN + RENAMED + [(r"^fn main\(rt: HostRuntime\)", "fn started(rt: HostRuntime)")])
     return text.s
 
@@ -290,13 +286,13 @@ def needed(files, crate):
                      if name in names and name != crate.replace("-", "_"))
 
 
-def every_file(top, docs, words):
-    """All files of these crates by path, and of each how its bodies compare."""
+def every_file(top, docs, below):
+    """All files of these crates by path, and of each how its bodies compare. `below` names the proved crates below all of them."""
     out, same, outside = {}, {}, set()
     for crate in CRATES:
         files, same[crate] = package(top, docs) if crate == PACKAGE else library(top, crate, docs, outside)
         if crate in CONTRACTS:
-            files["src/words.rs"] = words
+            files["src/words.rs"] = page.words(top, files, [LIBRARIES[crate], "program_io", *below])
         for path in sorted((STATIC / crate).rglob("*")):
             rel = str(path.relative_to(STATIC / crate))
             if path.is_file() and rel.removesuffix(".in") not in files:

@@ -224,3 +224,25 @@ def docs_before(s, i):
             break
         start = above
     return (start, end)
+
+
+def use_names(s):
+    """Each path that a file's `use` lines name."""
+    for m in re.finditer(r"^(?:pub )?use ([^;]*);", s, re.M):
+        yield from tree(re.sub(r"\s+", " ", m.group(1)).strip())
+
+
+def tree(path):
+    """The paths of one `use` tree."""
+    if not path.endswith("}"):
+        return [path.removesuffix("::self")]
+    head, rest = path[:-1].split("{", 1)
+    parts, depth, part = [], 0, ""
+    for c in rest + ",":
+        depth += (c == "{") - (c == "}")
+        if c == "," and depth == 0:
+            parts.append(part.strip())
+            part = ""
+        else:
+            part += c
+    return [p for x in parts if x for p in tree(head.strip() + x)]

@@ -21,10 +21,9 @@ LOADER.exec_module(TO_RUST)
 TO_RUST.formatted = lambda files: files
 CORE = "crates/fallible_core/src/"
 
-import failing
 import features
-import older
-import refusing
+import otherwise
+import page
 from source import Text
 
 
@@ -36,7 +35,8 @@ class Refusals(unittest.TestCase):
             shutil.copytree(path, self.tree / path.relative_to(TOP))
         shutil.copy(TOP / "LICENSE", self.tree)
         (self.tree / "docs").mkdir()
-        shutil.copy(TOP / "docs/CALLING.md", self.tree / "docs")
+        for name in ("CALLING", "READING"):
+            shutil.copy(TOP / f"docs/{name}.md", self.tree / "docs")
 
     def tearDown(self):
         shutil.rmtree(self.folder)
@@ -222,6 +222,22 @@ class Refusals(unittest.TestCase):
         self.assertTrue({"KMerge", "KMergeBy", "Tokens", "PlacedBytes", "Texts", "Rows", "Messages", "Cells", "Columns", "Buffered", "Lent",
                          "Bytes", "Peekable"} <= shown, shown)
 
+    def test_a_repository_is_named_where_it_is_given(self):
+        out = {"fallible-iterator/Cargo.toml": 'name = "own"\ndescription = "x"\nreadme = "README.md"\n', "programs/README.md": "`docs/RUST.md` of the repository\n",
+               "pg-login/src/words.rs": "// of one's own\n"}
+        page.leads(out, "https://example.org/a/b", "own")
+        self.assertIn('repository = "https://example.org/a/b"\ndocumentation = "https://docs.rs/own"\n', out["fallible-iterator/Cargo.toml"])
+        self.assertIn("[`docs/RUST.md`](https://example.org/a/b/blob/HEAD/docs/RUST.md) of the repository\n", out["programs/README.md"])
+        self.assertIn("(https://docs.rs/fallible-programs)", out["programs/README.md"])
+        self.assertEqual(out["pg-login/src/words.rs"], "// of one's own\n")
+
+    def test_the_words_of_contracts_are_told_once(self):
+        (self.tree / "crates/below/specs").mkdir(parents=True)
+        (self.tree / "crates/below/specs/Of.antt").write_text("-- a number | twice\nabbrev pub twice : N -> N\ntwice n = n + n\n\n-- unnamed\nabbrev pub other : N\n")
+        said = page.words(self.tree, {"a.rs": "/// ```text\n/// ensures { result = twice n }\n/// ```\n"}, ["below", "below"])
+        self.assertEqual(said.count("| `twice` | a number \\| twice |"), 1)
+        self.assertNotIn("unnamed", said)
+
     def test_a_link_leads_out(self):
         self.out.mkdir()
         elsewhere = self.folder / "elsewhere"
@@ -239,7 +255,7 @@ class Programs(unittest.TestCase):
             "use std::alloc::{AllocError, Global};\n\nstruct Held {\n    alloc: Global,\n    bytes: Vec<u8>,\n    own: Own,\n}\n\nimpl Own {\n    fn push(&mut self, byte: u8) {}\n}\n\n"
             "fn hold(alloc: Global, held: &mut Held) -> Result<(), AllocError> {\n    held.bytes.push(1)?;\n    held.own.push(2);\n"
             "    let mut made = Vec::from_slice(alloc, b\"\")?;\n    made.push(3)?;\n    more(alloc, &mut made)\n}\n"))
-        refusing.to_rust({"of.rs": text}, "crate")
+        otherwise.refusing({"of.rs": text}, "crate")
         for line in ("held.bytes.try_push(1)?;", "held.own.push(2);", "made.try_push(3)?;", "more(&mut made)", "fn hold(held: &mut Held)",
                      "use crate::memory::{AllocError, TryVec};"):
             self.assertIn(line, text.s)
@@ -250,8 +266,8 @@ class Programs(unittest.TestCase):
             "#[derive(Clone, Copy, Debug)]\npub enum Broken {\n    /// A read failed.\n    Read,\n}\n\n"
             "fn of(it: Result<u8, u8>) -> Result<u8, Broken> {\n    let Some(x) = two(it) else {\n        return Err(Broken::Read);\n    };\n"
             "    match it {\n        Ok(_) => Ok(x),\n        Err(_) => Err(Broken::Read),\n    }\n}\n"))
-        failing.to_rust(text, "crate")
-        older.to_rust(text)
+        otherwise.failing(text, "crate")
+        otherwise.older(text)
         for line in ("#[derive(Debug)]\npub enum Broken", "Read(crate::failed::ReadFailed),", "Err(failed) => Err(Broken::Read(failed)),",
                      "let x = match two(it) { Some(x) => x, _ => {", "return Err(Broken::Read(crate::failed::ReadFailed::new()));"):
             self.assertIn(line, text.s)

@@ -3,6 +3,8 @@
 #![cfg_attr(docsrs, feature(doc_cfg))]
 #![forbid(unsafe_code)]
 #![warn(missing_docs)]
+// An example imports what its lines use.
+#![doc(test(attr(deny(unused_imports))))]
 // The bodies stay as they are proved.
 #![allow(
     clippy::manual_map,
@@ -17,13 +19,8 @@ extern crate alloc;
 #[cfg(feature = "std")]
 extern crate std;
 
-#[cfg(feature = "alloc")]
-#[doc(hidden)]
-pub mod batch;
 mod by_drive;
 mod conversion;
-#[doc(hidden)]
-pub mod extending;
 #[doc(hidden)]
 pub mod fallible_contract;
 #[doc(hidden)]

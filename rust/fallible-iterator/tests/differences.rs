@@ -110,6 +110,7 @@ fn hints_hold() {
     let mut chained = from_fn(|| END).chain(once(2));
     assert_eq!(chained.next(), item(2));
     assert_eq!(chained.size_hint(), (0, Some(0)));
+    assert_eq!(empty::<u32, u32>().size_hint(), (0, Some(0)));
     assert_eq!(empty::<u32, u32>().cycle().size_hint(), (0, None));
     assert_eq!(once_err::<u32, u32>(4).iterator().size_hint(), (0, None));
     assert_eq!(

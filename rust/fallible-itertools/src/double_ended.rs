@@ -45,7 +45,7 @@ pub trait DoubleEndedFallibleItertools: DoubleEndedFallibleIterator + Sized {
     /// It draws at most n + 1 times from the back: up to that item, or a failure or `Ok(None)` before it. It fails with that failure. Nothing is drawn after that, and the iterator may be used again, from either end.
     ///
     /// ```
-    /// # use fallible_iterator::{DoubleEndedFallibleIterator, FallibleIterator, convert};
+    /// # use fallible_iterator::{DoubleEndedFallibleIterator, convert};
     /// # use fallible_itertools::DoubleEndedFallibleItertools;
     /// let mut it = convert([Ok::<u32, u8>(1), Ok(2), Ok(3)].into_iter());
     /// assert_eq!(it.nth_back(1), Ok(Some(2)));
@@ -79,7 +79,7 @@ pub trait DoubleEndedFallibleItertools: DoubleEndedFallibleIterator + Sized {
     /// Precondition, which is not checked: the iterator is finite.
     ///
     /// ```
-    /// # use fallible_iterator::{DoubleEndedFallibleIterator, FallibleIterator, convert};
+    /// # use fallible_iterator::{DoubleEndedFallibleIterator, convert};
     /// # use fallible_itertools::DoubleEndedFallibleItertools;
     /// let mut it = convert([Ok::<u32, u8>(150), Ok(700), Ok(7)].into_iter());
     /// assert_eq!(it.rfind(|reading| Ok(*reading > 100)), Ok(Some(700)));
@@ -125,7 +125,7 @@ pub trait DoubleEndedFallibleItertools: DoubleEndedFallibleIterator + Sized {
     /// Precondition, which is not checked: at most `usize::MAX` items are left.
     ///
     /// ```
-    /// # use fallible_iterator::{FallibleIterator, convert};
+    /// # use fallible_iterator::{convert};
     /// # use fallible_itertools::DoubleEndedFallibleItertools;
     /// let mut it = convert([Ok::<u32, u8>(150), Ok(700), Ok(7)].into_iter());
     /// assert_eq!(it.rposition(|reading| Ok(reading > 100)), Ok(Some(1)));

@@ -3,6 +3,8 @@
 #![cfg_attr(docsrs, feature(doc_cfg))]
 #![forbid(unsafe_code)]
 #![warn(missing_docs)]
+// An example imports what its lines use.
+#![doc(test(attr(deny(unused_imports))))]
 // The bodies stay as they are proved.
 #![allow(
     clippy::manual_map,

@@ -449,7 +449,7 @@ pub trait FallibleItertools: FallibleIterator + Sized {
     /// Precondition, which is not checked: the iterator is finite.
     ///
     /// ```
-    /// # use fallible_iterator::{FallibleIterator, convert};
+    /// # use fallible_iterator::{convert};
     /// # use fallible_itertools::FallibleItertools;
     /// let mut it = convert([Ok::<u32, &str>(0), Ok(7), Ok(150)].into_iter());
     /// let mut find = || -> Result<Option<u32>, &str> {
@@ -504,7 +504,7 @@ pub trait FallibleItertools: FallibleIterator + Sized {
     /// Precondition, which is not checked: at most `usize::MAX` items are left, so that each position fits.
     ///
     /// ```
-    /// # use fallible_iterator::{FallibleIterator, convert};
+    /// # use fallible_iterator::{convert};
     /// # use fallible_itertools::FallibleItertools;
     /// let mut it = convert([Ok::<u32, &str>(0), Ok(7), Ok(150)].into_iter());
     /// let mut place = || -> Result<Option<usize>, &str> {
@@ -556,7 +556,7 @@ pub trait FallibleItertools: FallibleIterator + Sized {
     /// Precondition, which is not checked: the iterator is finite.
     ///
     /// ```
-    /// # use fallible_iterator::{FallibleIterator, convert};
+    /// # use fallible_iterator::{convert};
     /// # use fallible_itertools::FallibleItertools;
     /// let mut it = convert([Ok::<u32, u8>(150), Ok(7), Ok(700), Err(9)].into_iter());
     /// assert_eq!(it.contains(&7), Ok(true));
@@ -596,7 +596,7 @@ pub trait FallibleItertools: FallibleIterator + Sized {
     /// Precondition, which is not checked: the iterator is finite.
     ///
     /// ```
-    /// # use fallible_iterator::{FallibleIterator, convert};
+    /// # use fallible_iterator::{convert};
     /// # use fallible_itertools::FallibleItertools;
     /// let mut it = convert([Ok::<u32, u8>(7), Ok(7), Ok(150), Ok(8)].into_iter());
     /// assert_eq!(it.all_equal(), Ok(false));
@@ -636,7 +636,7 @@ pub trait FallibleItertools: FallibleIterator + Sized {
     /// Precondition, which is not checked: the iterator is finite.
     ///
     /// ```
-    /// # use fallible_iterator::{FallibleIterator, convert};
+    /// # use fallible_iterator::{convert};
     /// # use fallible_itertools::FallibleItertools;
     /// let mut it = convert([Ok::<u32, u8>(7), Ok(150), Ok(7), Ok(8)].into_iter());
     /// assert!(!it.all_unique()?);
@@ -680,7 +680,7 @@ pub trait FallibleItertools: FallibleIterator + Sized {
     /// Precondition, which is not checked: the iterator is finite.
     ///
     /// ```
-    /// # use fallible_iterator::{FallibleIterator, convert};
+    /// # use fallible_iterator::{convert};
     /// # use fallible_itertools::FallibleItertools;
     /// let mut it = convert([Ok::<u32, u8>(7), Ok(7), Ok(150), Ok(8)].into_iter());
     /// assert_eq!(it.all_equal_value(), Ok(Err(Some((7, 150)))));
@@ -767,7 +767,7 @@ pub trait FallibleItertools: FallibleIterator + Sized {
     /// Precondition, which is not checked: the iterator is finite.
     ///
     /// ```
-    /// # use fallible_iterator::{FallibleIterator, convert};
+    /// # use fallible_iterator::{convert};
     /// # use fallible_itertools::FallibleItertools;
     /// let readings = [Ok::<u32, u8>(7), Ok(150), Ok(8)];
     /// let it = convert(readings.into_iter());
@@ -810,7 +810,7 @@ pub trait FallibleItertools: FallibleIterator + Sized {
     /// Draws, errors and precondition: as `find_or_last`. It consumes the iterator too.
     ///
     /// ```
-    /// # use fallible_iterator::{FallibleIterator, convert};
+    /// # use fallible_iterator::{convert};
     /// # use fallible_itertools::FallibleItertools;
     /// let readings = [Ok::<u32, u8>(7), Ok(150), Ok(8)];
     /// let it = convert(readings.into_iter());
@@ -855,7 +855,7 @@ pub trait FallibleItertools: FallibleIterator + Sized {
     /// Precondition, which is not checked: the iterator is finite.
     ///
     /// ```
-    /// # use fallible_iterator::{FallibleIterator, convert};
+    /// # use fallible_iterator::{convert};
     /// # use fallible_itertools::FallibleItertools;
     /// let readings = [Ok::<u8, u8>(150), Ok(7)];
     /// assert_eq!(convert(readings.into_iter()).checked_sum(), Ok(Some(157)));
@@ -890,7 +890,7 @@ pub trait FallibleItertools: FallibleIterator + Sized {
     /// Draws, errors and precondition: as `checked_sum`. It consumes the iterator too.
     ///
     /// ```
-    /// # use fallible_iterator::{FallibleIterator, convert};
+    /// # use fallible_iterator::{convert};
     /// # use fallible_itertools::FallibleItertools;
     /// let sides = [Ok::<u8, u8>(3), Ok(7)];
     /// assert_eq!(convert(sides.into_iter()).checked_product(), Ok(Some(21)));
@@ -930,7 +930,7 @@ pub trait FallibleItertools: FallibleIterator + Sized {
     /// Precondition, which is not checked: the iterator is finite.
     ///
     /// ```
-    /// # use fallible_iterator::{FallibleIterator, convert};
+    /// # use fallible_iterator::{convert};
     /// # use fallible_itertools::FallibleItertools;
     /// let prices = [Ok::<f64, u8>(1.5), Ok(0.25), Ok(2.0)];
     /// assert_eq!(convert(prices.into_iter()).sum::<f64>(), Ok(3.75));
@@ -959,7 +959,7 @@ pub trait FallibleItertools: FallibleIterator + Sized {
     /// Types, draws, errors and precondition: as `sum`. It consumes the iterator too.
     ///
     /// ```
-    /// # use fallible_iterator::{FallibleIterator, convert};
+    /// # use fallible_iterator::{convert};
     /// # use fallible_itertools::FallibleItertools;
     /// let rates = [Ok::<f64, u8>(1.5), Ok(0.5), Ok(2.0)];
     /// assert_eq!(convert(rates.into_iter()).product::<f64>(), Ok(1.5));
@@ -1044,7 +1044,7 @@ pub trait FallibleItertools: FallibleIterator + Sized {
     /// Precondition, which is not checked: the iterator is finite.
     ///
     /// ```
-    /// # use fallible_iterator::{FallibleIterator, convert};
+    /// # use fallible_iterator::{convert};
     /// # use fallible_itertools::FallibleItertools;
     /// let readings = [Ok::<u32, u8>(150), Ok(7), Ok(8)];
     /// let it = convert(readings.into_iter());
@@ -1085,7 +1085,7 @@ pub trait FallibleItertools: FallibleIterator + Sized {
     /// Precondition, which is not checked: the iterator is finite.
     ///
     /// ```
-    /// # use fallible_iterator::{FallibleIterator, convert};
+    /// # use fallible_iterator::{convert};
     /// # use fallible_itertools::FallibleItertools;
     /// let readings = [Ok::<u32, u8>(150), Ok(7), Ok(8)];
     /// let it = convert(readings.into_iter());
@@ -1122,7 +1122,7 @@ pub trait FallibleItertools: FallibleIterator + Sized {
     /// Precondition, which is not checked: the iterator is finite.
     ///
     /// ```
-    /// # use fallible_iterator::{FallibleIterator, convert};
+    /// # use fallible_iterator::{convert};
     /// # use fallible_itertools::FallibleItertools;
     /// let readings = [Ok::<u32, u8>(7), Ok(7), Ok(150)];
     /// assert_eq!(convert(readings.into_iter()).is_sorted(), Ok(true));
@@ -1824,7 +1824,7 @@ pub trait FallibleItertools: FallibleIterator + Sized {
     /// It draws at most twice: up to `Ok(None)`, a failure or the second item. It fails with that failure, and drops an item that came before it. Nothing is drawn after that, and the iterator may be used again.
     ///
     /// ```
-    /// # use fallible_iterator::{FallibleIterator, convert};
+    /// # use fallible_iterator::{convert};
     /// # use fallible_itertools::FallibleItertools;
     /// let one = [Ok::<u32, u8>(150)];
     /// assert_eq!(convert(one.into_iter()).at_most_one(), Ok(Ok(Some(150))));
@@ -1870,7 +1870,7 @@ pub trait FallibleItertools: FallibleIterator + Sized {
     /// Draws, errors, precondition and what is left: as `at_most_one`.
     ///
     /// ```
-    /// # use fallible_iterator::{FallibleIterator, convert};
+    /// # use fallible_iterator::{convert};
     /// # use fallible_itertools::FallibleItertools;
     /// # use fallible_itertools::NotOne;
     /// let one = [Ok::<u32, u8>(150)];
@@ -1917,7 +1917,7 @@ pub trait FallibleItertools: FallibleIterator + Sized {
     /// Precondition, which is not checked: the iterator is finite, and at most `usize::MAX` items are left, so that each position fits.
     ///
     /// ```
-    /// # use fallible_iterator::{FallibleIterator, convert};
+    /// # use fallible_iterator::{convert};
     /// # use fallible_itertools::FallibleItertools;
     /// let readings = [Ok::<u32, u8>(150), Ok(7), Ok(150), Ok(8)];
     /// assert_eq!(convert(readings.into_iter()).position_max(), Ok(Some(2)));
@@ -1951,7 +1951,7 @@ pub trait FallibleItertools: FallibleIterator + Sized {
     /// Draws, errors and precondition: as `position_max`. It consumes the iterator too.
     ///
     /// ```
-    /// # use fallible_iterator::{FallibleIterator, convert};
+    /// # use fallible_iterator::{convert};
     /// # use fallible_itertools::FallibleItertools;
     /// let readings = [Ok::<u32, u8>(150), Ok(7), Ok(8), Ok(7)];
     /// assert_eq!(convert(readings.into_iter()).position_min(), Ok(Some(1)));
@@ -1989,7 +1989,7 @@ pub trait FallibleItertools: FallibleIterator + Sized {
     /// Precondition, which is not checked: the iterator is finite.
     ///
     /// ```
-    /// # use fallible_iterator::{FallibleIterator, convert};
+    /// # use fallible_iterator::{convert};
     /// # use fallible_itertools::FallibleItertools;
     /// # use fallible_itertools::MinMaxResult;
     /// let readings = [Ok::<u32, u8>(150), Ok(7), Ok(700)];
@@ -2041,7 +2041,7 @@ pub trait FallibleItertools: FallibleIterator + Sized {
     /// Precondition, which is not checked: the iterator is finite.
     ///
     /// ```
-    /// # use fallible_iterator::{FallibleIterator, convert};
+    /// # use fallible_iterator::{convert};
     /// # use fallible_itertools::FallibleItertools;
     /// # use fallible_itertools::MinMaxResult;
     /// let pairs = [Ok::<(u32, char), u8>((3, 'a')), Ok((1, 'b')), Ok((3, 'c')), Ok((1, 'd'))];
@@ -2083,7 +2083,7 @@ pub trait FallibleItertools: FallibleIterator + Sized {
     /// Precondition, which is not checked: the iterator is finite.
     ///
     /// ```
-    /// # use fallible_iterator::{FallibleIterator, convert};
+    /// # use fallible_iterator::{convert};
     /// # use fallible_itertools::FallibleItertools;
     /// # use fallible_itertools::MinMaxResult;
     /// let words = [Ok::<&str, u8>("to"), Ok("the"), Ok("sea"), Ok("at")];
@@ -2125,7 +2125,7 @@ pub trait FallibleItertools: FallibleIterator + Sized {
     /// Precondition, which is not checked: at most `usize::MAX` items are left, so that each number fits.
     ///
     /// ```
-    /// # use fallible_iterator::{FallibleIterator, convert};
+    /// # use fallible_iterator::{convert};
     /// # use fallible_itertools::FallibleItertools;
     /// let readings = [Ok::<u32, u8>(7), Ok(150), Ok(7)];
     /// let counts = convert(readings.into_iter()).counts()?;
@@ -2171,7 +2171,7 @@ pub trait FallibleItertools: FallibleIterator + Sized {
     /// Precondition, which is not checked: at most `usize::MAX` items are left, so that each number fits.
     ///
     /// ```
-    /// # use fallible_iterator::{FallibleIterator, convert};
+    /// # use fallible_iterator::{convert};
     /// # use fallible_itertools::FallibleItertools;
     /// let readings = [Ok::<u32, u8>(150), Ok(7), Ok(157)];
     /// let counts = convert(readings.into_iter()).counts_by(|reading: u32| Ok(
@@ -2216,7 +2216,7 @@ pub trait FallibleItertools: FallibleIterator + Sized {
     /// Precondition, which is not checked: the iterator is finite.
     ///
     /// ```
-    /// # use fallible_iterator::{FallibleIterator, convert};
+    /// # use fallible_iterator::{convert};
     /// # use fallible_itertools::FallibleItertools;
     /// let pairs = [Ok::<(char, u32), u8>(('a', 1)), Ok(('b', 2)), Ok(('a', 3))];
     /// let groups = convert(pairs.into_iter()).into_group_map()?;
@@ -2305,7 +2305,7 @@ pub trait FallibleItertools: FallibleIterator + Sized {
     /// Precondition, which is not checked: the iterator is finite.
     ///
     /// ```
-    /// # use fallible_iterator::{FallibleIterator, convert};
+    /// # use fallible_iterator::{convert};
     /// # use fallible_itertools::FallibleItertools;
     /// let readings = [Ok::<u32, u8>(150), Ok(7), Ok(157)];
     /// let groups = convert(readings.into_iter()).into_group_map_by(|reading: &u32| Ok(
@@ -2352,7 +2352,7 @@ pub trait FallibleItertools: FallibleIterator + Sized {
     /// Precondition, which is not checked: the iterator is finite.
     ///
     /// ```
-    /// # use fallible_iterator::{FallibleIterator, convert};
+    /// # use fallible_iterator::{convert};
     /// # use fallible_itertools::FallibleItertools;
     /// let readings = [Ok::<u32, u8>(150), Ok(7), Ok(157)];
     /// let sums = convert(readings.into_iter()).fold_by_key(|reading: &u32| Ok(*reading / 100),
@@ -2414,7 +2414,7 @@ pub trait FallibleItertools: FallibleIterator + Sized {
     /// Precondition, which is not checked: the iterator is finite.
     ///
     /// ```
-    /// # use fallible_iterator::{FallibleIterator, convert};
+    /// # use fallible_iterator::{convert};
     /// # use fallible_itertools::Either;
     /// # use fallible_itertools::FallibleItertools;
     /// let readings = [Ok::<u32, u8>(150), Ok(7), Ok(700)];
@@ -2466,7 +2466,7 @@ pub trait FallibleItertools: FallibleIterator + Sized {
     /// Precondition, which is not checked: the iterator is finite.
     ///
     /// ```
-    /// # use fallible_iterator::{FallibleIterator, convert};
+    /// # use fallible_iterator::{convert};
     /// # use fallible_itertools::FallibleItertools;
     /// let readings = [Ok::<u32, u8>(150), Err(9), Ok(7), Err(8)];
     /// let (items, failures): (Vec<u32>, Vec<u8>) = convert(readings.into_iter()).partition_failures();
@@ -2508,7 +2508,7 @@ pub trait FallibleItertools: FallibleIterator + Sized {
     /// Precondition, which is not checked: the iterator is finite.
     ///
     /// ```
-    /// # use fallible_iterator::{FallibleIterator, convert};
+    /// # use fallible_iterator::{convert};
     /// # use fallible_itertools::FallibleItertools;
     /// let readings = [Ok::<u32, u8>(150), Ok(7), Ok(700)];
     /// let sorted = convert(readings.into_iter()).sorted()?;
@@ -2548,7 +2548,7 @@ pub trait FallibleItertools: FallibleIterator + Sized {
     /// Precondition, which is not checked: the iterator is finite.
     ///
     /// ```
-    /// # use fallible_iterator::{FallibleIterator, convert};
+    /// # use fallible_iterator::{convert};
     /// # use fallible_itertools::FallibleItertools;
     /// let readings = [Ok::<u32, u8>(150), Ok(7), Ok(700)];
     /// let falling = convert(readings.into_iter()).sorted_by(|x: &u32, y: &u32| y.cmp(x),
@@ -2598,7 +2598,7 @@ pub trait FallibleItertools: FallibleIterator + Sized {
     /// Precondition, which is not checked: the iterator is finite.
     ///
     /// ```
-    /// # use fallible_iterator::{FallibleIterator, convert};
+    /// # use fallible_iterator::{convert};
     /// # use fallible_itertools::FallibleItertools;
     /// let words = [Ok::<&str, u8>("the"), Ok("sea"), Ok("is")];
     /// let sorted = convert(words.into_iter()).sorted_by_key(|word: &&str| word.len())?;
@@ -2646,7 +2646,7 @@ pub trait FallibleItertools: FallibleIterator + Sized {
     /// Precondition, which is not checked: the iterator is finite.
     ///
     /// ```
-    /// # use fallible_iterator::{FallibleIterator, convert};
+    /// # use fallible_iterator::{convert};
     /// # use fallible_itertools::FallibleItertools;
     /// let readings = [Ok::<u32, u8>(150), Ok(7), Ok(700)];
     /// let sorted = convert(readings.into_iter()).sorted_unstable()?;
@@ -2686,7 +2686,7 @@ pub trait FallibleItertools: FallibleIterator + Sized {
     /// Precondition, which is not checked: the iterator is finite.
     ///
     /// ```
-    /// # use fallible_iterator::{FallibleIterator, convert};
+    /// # use fallible_iterator::{convert};
     /// # use fallible_itertools::FallibleItertools;
     /// let readings = [Ok::<u32, u8>(150), Ok(7), Ok(700)];
     /// let falling = convert(readings.into_iter()).sorted_unstable_by(|x: &u32, y: &u32| y.cmp(x),
@@ -2736,7 +2736,7 @@ pub trait FallibleItertools: FallibleIterator + Sized {
     /// Precondition, which is not checked: the iterator is finite.
     ///
     /// ```
-    /// # use fallible_iterator::{FallibleIterator, convert};
+    /// # use fallible_iterator::{convert};
     /// # use fallible_itertools::FallibleItertools;
     /// let words = [Ok::<&str, u8>("the"), Ok("is"), Ok("calm")];
     /// let sorted = convert(words.into_iter()).sorted_unstable_by_key(|word: &&str| word.len(),
@@ -2787,7 +2787,7 @@ pub trait FallibleItertools: FallibleIterator + Sized {
     /// Precondition, which is not checked: the iterator is finite.
     ///
     /// ```
-    /// # use fallible_iterator::{FallibleIterator, convert};
+    /// # use fallible_iterator::{convert};
     /// # use fallible_itertools::FallibleItertools;
     /// let readings = [Ok::<u32, u8>(150), Ok(7), Ok(700)];
     /// let text = convert(readings.into_iter()).join(", ")?;
@@ -2911,7 +2911,7 @@ pub trait FallibleItertools: FallibleIterator + Sized {
     /// Precondition, which is not checked: one of the two is finite.
     ///
     /// ```
-    /// # use fallible_iterator::{FallibleIterator, convert};
+    /// # use fallible_iterator::{convert};
     /// # use fallible_itertools::FallibleItertools;
     /// # use std::cmp::Ordering;
     /// let left = convert([Ok::<u32, u8>(11), Ok(12)].into_iter());
@@ -2958,7 +2958,7 @@ pub trait FallibleItertools: FallibleIterator + Sized {
     /// Draws, errors and precondition: as `cmp_by`.
     ///
     /// ```
-    /// # use fallible_iterator::{FallibleIterator, convert};
+    /// # use fallible_iterator::{convert};
     /// # use fallible_itertools::FallibleItertools;
     /// let left = convert([Ok::<u32, u8>(11), Ok(12)].into_iter());
     /// let right = convert([Ok(21), Ok(2)].into_iter());

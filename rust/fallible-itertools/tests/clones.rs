@@ -1,6 +1,6 @@
-//! How often a value is cloned.
-use fallible_iterator::convert;
-use fallible_itertools::FallibleItertools;
+//! How often a value is cloned, and the clones and debug texts of what is written by hand.
+use fallible_iterator::{FallibleIterator, convert};
+use fallible_itertools::{FallibleItertools, kmerge, kmerge_by};
 use std::cell::Cell;
 use std::rc::Rc;
 
@@ -46,4 +46,24 @@ fn fold_by_key_that_fails_keeps_no_clone() {
     );
     assert_eq!(folds.err(), Some(1));
     assert_eq!((clones.get(), Rc::strong_count(&clones)), (2, 1));
+}
+
+#[test]
+fn what_is_written_by_hand_has_a_clone_and_a_debug_text() {
+    let mut it = convert([Ok(1), Err(9u8), Ok(2)].into_iter()).err_into::<u32>();
+    assert_eq!(it.next(), Ok(Some(1)));
+    assert!(format!("{it:?}").starts_with("ErrInto { it: "));
+    assert_eq!((it.clone().next(), it.next()), (Err(9), Err(9)));
+
+    let sources = || [[Ok::<u32, ()>(1), Ok(4)], [Ok(2), Ok(3)]].map(|x| convert(x.into_iter()));
+    let mut it = kmerge(sources());
+    assert_eq!(it.next(), Ok(Some(1)));
+    assert!(format!("{it:?}").starts_with("KMerge { tree: "));
+    assert_eq!((it.clone().next(), it.next()), (Ok(Some(2)), Ok(Some(2))));
+
+    let falls: fn(&u32, &u32) -> Result<bool, ()> = |x, y| Ok(x % 4 <= y % 4);
+    let mut it = kmerge_by(sources(), falls);
+    assert_eq!(it.next(), Ok(Some(1)));
+    assert!(format!("{it:?}").starts_with("KMergeBy { tree: "));
+    assert_eq!((it.clone().next(), it.next()), (Ok(Some(4)), Ok(Some(4))));
 }

@@ -950,7 +950,7 @@ pub trait FallibleIterator {
     /// Each call draws once, from the other end. It fails as that draw does. Laziness and behaviour after `Ok(None)`: as `map`.
     ///
     /// ```
-    /// # use fallible_iterator::{DoubleEndedFallibleIterator, FallibleIterator, convert};
+    /// # use fallible_iterator::{FallibleIterator, convert};
     /// let readings = [Ok::<u32, u8>(150), Ok(7), Err(9)];
     /// let mut it = convert(readings.into_iter()).rev();
     /// let drawn = [it.next(), it.next(), it.next(), it.next()];

@@ -80,7 +80,7 @@ impl<T, E, I: core::iter::DoubleEndedIterator<Item = Result<T, E>>> Convert<I> {
     /// Creating it draws nothing. Each call draws once, from the other end. It fails as that draw does. After a failure and after `Ok(None)` the next call draws again.
     ///
     /// ```
-    /// # use fallible_iterator::{DoubleEndedFallibleIterator, FallibleIterator, convert};
+    /// # use fallible_iterator::{FallibleIterator, convert};
     /// let readings = [Ok::<u32, u8>(150), Ok(7), Err(9)];
     /// let mut it = convert(readings.into_iter()).rev();
     /// let drawn = [it.next(), it.next(), it.next(), it.next()];

@@ -41,7 +41,7 @@ pub fn convert<T, E, I: Iterator<Item = Result<T, E>>>(it: I) -> Convert<I> {
 /// Creating it draws nothing. `next` draws the std iterator once. It fails with the value of an `Err`. It is fused: after the first `Ok(None)` the std iterator isn't drawn again.
 ///
 /// ```
-/// # use fallible_iterator::{FallibleIterator, convert_fused, from_fn};
+/// # use fallible_iterator::{FallibleIterator, convert_fused};
 /// # use std::iter;
 /// let mut polls = 0u32;
 /// let source = iter::from_fn(|| {

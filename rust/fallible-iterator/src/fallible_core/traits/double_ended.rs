@@ -94,7 +94,7 @@ pub trait DoubleEndedFallibleIterator: FallibleIterator {
     /// Precondition, which is not checked: the iterator is finite.
     ///
     /// ```
-    /// # use fallible_iterator::{DoubleEndedFallibleIterator, FallibleIterator, convert};
+    /// # use fallible_iterator::{DoubleEndedFallibleIterator, convert};
     /// let mut it = convert([Ok::<u8, &str>(7), Ok(100), Ok(100), Ok(100)].into_iter());
     /// let sum: Result<u8, &str> = it.try_rfold(
     ///     0,
@@ -148,7 +148,7 @@ pub trait DoubleEndedFallibleIterator: FallibleIterator {
     /// Precondition, which is not checked: the iterator is finite.
     ///
     /// ```
-    /// # use fallible_iterator::{DoubleEndedFallibleIterator, FallibleIterator, convert};
+    /// # use fallible_iterator::{DoubleEndedFallibleIterator, convert};
     /// let digits = [Ok::<u32, u8>(1), Ok(2), Ok(3)];
     /// let read = convert(digits.into_iter()).rfold(0, |number: u32, digit: u32| {
     ///     Ok(number.wrapping_mul(10).wrapping_add(digit))
@@ -184,7 +184,7 @@ pub trait DoubleEndedFallibleIterator: FallibleIterator {
     /// It is one draw, and fails as `next` does. The iterator may be used again, from either end, where `draw` says it of the front alone. Of what is listed from both ends it leaves the rest.
     ///
     /// ```
-    /// # use fallible_iterator::{DoubleEndedFallibleIterator, FallibleIterator, convert};
+    /// # use fallible_iterator::{DoubleEndedFallibleIterator, convert};
     /// let mut it = convert([Ok::<u32, u8>(1), Ok(2), Err(9)].into_iter());
     /// let drawn = [
     ///     it.draw_back(),
@@ -222,7 +222,7 @@ pub trait DoubleEndedFallibleIterator: FallibleIterator {
     /// It is one draw, from the back, and fails as `next_back` does. The iterator may be used again, from either end. Of what is listed from both ends it leaves what stands before it.
     ///
     /// ```
-    /// # use fallible_iterator::{DoubleEndedFallibleIterator, FallibleIterator, convert};
+    /// # use fallible_iterator::{DoubleEndedFallibleIterator, convert};
     /// let mut it = convert([Ok::<u32, u8>(1), Ok(2), Err(9)].into_iter());
     /// let drawn = [
     ///     it.draw_back(),

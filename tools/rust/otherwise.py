@@ -1,10 +1,14 @@
-"""Memory that may be refused. In Rattle each call that takes memory names an allocator, and returns a failure where that refuses. In
-the Rust of programs no allocator is passed, and such a call is the one of `program_io::memory` that fails too."""
+"""What the crates of programs write otherwise.
+
+- Memory that may be refused. In Rattle each call that takes memory names an allocator, and returns a failure where that refuses. Here
+  no allocator is passed, and such a call is the one of `program_io::memory` that fails too.
+- Failed reads and writes. In Rattle a fault of one has no value. Here it is a `ReadFailed` or a `WriteFailed`, which has std's error,
+  and each fault that is made of it hands that on.
+- What the oldest rustc doesn't have: `let .. else` is a `match`, and a condition after an `if let` is one within it."""
 import re
 
-from examples import use_names
-from source import Refused, functions
-from tests import closing
+from source import Refused, Text, after_braces, functions, use_names
+from suite import closing
 
 # Calls that may be refused, and those that stand in their place. Of a method the receiver is a std collection's.
 METHODS = {"push": "try_push", "extend_from_slice": "try_extend_from_slice", "reserve": "try_make_room", "resize": "try_resize",
@@ -21,7 +25,7 @@ TRAITS = {
     "TryBuffer": r"\bBufReader::try_\w+\(",
 }
 HANDLE = r"(?:rt\.alloc\(\)|self\.alloc|alloc)"
-RULES = [
+UNALLOCATED = [
     # A text, and so many of an item.
     (r"\bformat!\(in %s;\s*" % HANDLE, "String::try_format(format_args!("),
     (r"\bvec!\[in %s; ([^;\]]*); ([^\]]*)\]" % HANDLE, r"Vec::try_filled(\1, \2)"),
@@ -83,7 +87,7 @@ def without_allocators(text):
     for m in reversed(list(OF_GLOBAL.finditer(text.s))):
         new = re.sub(r"(?<=\()\*self,\s*|,\s*\*self(?=\s*,?\s*\))", "", m.group())
         text.replace(m.start(), m.end(), new)
-    for pattern, new in RULES:
+    for pattern, new in UNALLOCATED:
         for m in reversed(list(re.finditer(pattern, text.s, re.M))):
             if "format_args" in new:
                 end = closing(text.s, text.s.index("(", m.start()))
@@ -110,7 +114,7 @@ def imported(text, home):
         text.replace(at, at, "use %s::memory::{%s};\n" % (home, ", ".join(sorted(wanted))))
 
 
-def to_rust(files, home):
+def refusing(files, home):
     """Has files go by memory that may be refused. `home` is where `memory` is."""
     owned, whole = own_methods(files.values()), "\n".join(text.s for text in files.values())
     for text in files.values():
@@ -121,8 +125,69 @@ def to_rust(files, home):
 
 def renamed(place, s, owned, whole):
     """A proved file with the calls by their names in Rust, and no allocator."""
-    from source import Text
     text = Text(place, s)
     named(text, owned, whole)
     without_allocators(text)
     return text.s
+
+
+# The enums that tell of a failed read, and what hands one on.
+ENUMS = r"RunFault<F>|PgFault|Broken|Unread"
+TOLD = r"(?:RunFault::Read|PgFault::Read|Broken::Read|Unread::Failed)"
+HANDED_ON = [
+    (r"\bfault_of_read\(&(\w+)\)", r"fault_of_read(\1)"),
+    (r"\b(fn fault_of_read<F>\(error: )&(?=io::Error\b)", r"\1"),
+    (r"(ErrorKind::OutOfMemory => RunFault::Memory,\s*_ => RunFault::Read)\b", r"\1(error.into())"),
+    # What tells of it by its kind alone.
+    (r"\b(RunFault::Read)(?= => (?:\d|\w+\.))", r"\1(_)"),
+    (r"(\| RunFault::Read)(?= =>)", r"\1(_)"),
+    (r"\b(RunFault::Write)(?= => (?:\d|\w+\.))", r"\1(_)"),
+    (r"(\| RunFault::Write)(?= =>)", r"\1(_)"),
+    # What makes one of another.
+    (r"\bErr\(_\) => ((?:Err\()?)RunFault::Write\b(?!\()", r"Err(error) => \1RunFault::Write(error.into())"),
+    (r"\bErr\(RunFault::Write\) => Err\(RunFault::Write\)", r"Err(RunFault::Write(failed)) => Err(RunFault::Write(failed))"),
+    (r"\bErr\(_\) => Err\((%s)\)" % TOLD, r"Err(failed) => Err(\1(failed))"),
+    (r"\bErr\((%s)\) => Err\((%s)\)" % (TOLD, TOLD), r"Err(\1(failed)) => Err(\2(failed))"),
+    (r"(?<![\w(])(%s) => (%s)(?![\w(])" % (TOLD, TOLD), r"\1(failed) => \2(failed)"),
+    # One of which std has no error.
+    (r"\b(%s)(?![\w(])" % TOLD, r"\1(HOME::failed::ReadFailed::new())"),
+    (r"\bRunFault::Write\b(?!\()", "RunFault::Write(HOME::failed::WriteFailed::new())"),
+]
+DECLARED = [
+    (r"^#\[derive\([^\]]*\)\]\n(?=pub enum (?:%s) \{)" % ENUMS, "#[derive(Debug)]\n"),
+    (r"^(    /// A read failed\.\n    (?:Read|Failed)),$", r"\1(HOME::failed::ReadFailed),"),
+    (r"^(    /// The report could not be written\.\n    Write),$", r"\1(HOME::failed::WriteFailed),"),
+    (r"^/// A read failed\.\n#\[derive\(Debug\)\]\npub struct ReadFailed;\n", "pub use crate::failed::ReadFailed;\n"),
+    (r"^(// One read, for one byte\.) An interrupted read fails too\.$", r"\1 An interrupted read is tried again."),
+]
+
+
+def failing(text, home):
+    """Has a file hand on what a failed read has. `home` is where `failed` is."""
+    own = re.search(r"^pub enum (?:%s) \{" % ENUMS, text.s, re.M)
+    for pattern, new in (DECLARED if own or "pub struct ReadFailed;" in text.s else []) + HANDED_ON:
+        for m in reversed(list(re.finditer(pattern, text.s, re.M))):
+            if not text.s[text.s.rfind("\n", 0, m.start()) + 1:m.start()].lstrip().startswith("//"):
+                text.replace(m.start(), m.end(), m.expand(new).replace("HOME", home))
+
+
+LET = re.compile(r"\blet\s+((?:Some|Ok|Err)\b[^=;]*?)\s*=\s*([^;{}]*?)\s*\belse\s*\{")
+CHAIN = re.compile(r"\bif\s+(let\s+[^=;{}]*=\s*[^;{}&|]*?)\s*&&\s*([^;{}]*?)\s*\{")
+BOUND = re.compile(r"\b(?!mut\b|ref\b)[a-z_]\w*\b(?!\s*[({:])")
+
+
+def older(text):
+    """Rewrites what the oldest rustc doesn't have."""
+    for m in reversed(list(LET.finditer(text.s))):
+        end = after_braces(text.s, m.end() - 1)
+        if text.s[end:end + 1] != ";":
+            raise Refused("%s: older: a `let .. else` that ends otherwise" % text.at(m.start()))
+        names = BOUND.findall(m.group(1))
+        bound = names[0] if len(names) == 1 else "(%s)" % ", ".join(names)
+        block = text.s[m.end() - 1:end]
+        text.replace(m.start(), end, "let %s = match %s { %s => %s, _ => %s }" % (bound, m.group(2), m.group(1), bound, block))
+    for m in reversed(list(CHAIN.finditer(text.s))):
+        end = after_braces(text.s, m.end() - 1)
+        if re.match(r"\s*else\b", text.s[end:]):
+            raise Refused("%s: older: a chain of `if let` with an `else`" % text.at(m.start()))
+        text.replace(m.start(), end, "if %s { if %s %s }" % (m.group(1), m.group(2), text.s[m.end() - 1:end]))
