@@ -17,6 +17,7 @@ use Rattle.fallible_json.specs.Tokens.{after, begun_by, is_blank}
 use Rattle.fallible_json.specs.Wanted.{wanted_of}
 use Rattle.fallible_json.specs.declared.checked.CheckedToken.{CheckedToken}
 use Rattle.fallible_json.specs.declared.checked.Kind.{Kind}
+use Rattle.fallible_json.specs.declared.checked.TokenFault.{TokenFault}
 use Rattle.fallible_json.specs.declared.checked.Kind.TheVariants as kind
 use Rattle.fallible_json.specs.declared.grammar.Expects.{Expects}
 use Rattle.fallible_json.specs.declared.grammar.Expects.TheVariants.{NameOrEnd, Name}
@@ -28,7 +29,6 @@ use Rattle.fallible_json.specs.declared.minifying.Misplaced.TheVariants.{Source,
 use Rattle.fallible_json.specs.declared.token.Phase.{Phase}
 use Rattle.fallible_json.specs.declared.token.Token.{Token}
 use Rattle.fallible_json.specs.declared.token.Token.TheVariants as token
-use Rattle.fallible_json.specs.declared.wanted.Wanted.{Wanted}
 
 -- ---- tokens with their text
 
@@ -130,7 +130,7 @@ seen_between state next ((first, last, token), text) = option_map (λ k. (k, dep
 
 -- a failure of one that checks tokens of a source that fails with F
 abbrev pub CheckFault : Type 0 → Type 0
-CheckFault F = Fault (Misplaced F × Wanted)
+CheckFault F = Fault (TokenFault F)
 
 -- an item before others, if it is one
 abbrev pub if_item : {A E : Type 0} → Option A → List (Result A E) → List (Result A E)
@@ -138,9 +138,13 @@ if_item (Some x) l = Ok x ∷ l
 if_item None l = l
 
 module _ {F : Type 0} where
-  -- a fault, and what could come there; nothing comes after it
+  -- a fault, and what could come there
+  abbrev pub fault_in : {A : Type 0} → State → Misplaced F → Result A (CheckFault F)
+  fault_in state why = Err (fault.Source (record { why = why; wanted = wanted_of state }))
+
+  -- nothing comes after it
   abbrev pub faulty : State → Misplaced F → List (Result Seen (CheckFault F))
-  faulty state why = Err (fault.Source (why, wanted_of state)) ∷ []
+  faulty state why = fault_in state why ∷ []
 
   -- by what a token makes of the state: where it may not stand, and where it may
   abbrev pub checked_first : State → Texted → Option State → (State → List (Result Seen (CheckFault F))) → List (Result Seen (CheckFault F))
@@ -178,7 +182,7 @@ abbrev pub StandsAs : {F : Type 0} → State → Texted → Result (Option (Opti
 StandsAs state x (Ok (Some (Some y))) next = (after_token state x.0.2 ≡ Some next) × (z : Seen) × IsSeen z y × (seen_between state next x ≡ Some z)
 StandsAs state x (Ok (Some None)) next = (after_token state x.0.2 ≡ Some next) × (seen_between state next x ≡ None)
 StandsAs state x (Ok None) next = ⊥
-StandsAs state x (Err (fault.Source e)) next = (e ≡ (Unexpected x.0.0, wanted_of state)) × (after_token state x.0.2 ≡ None)
+StandsAs state x (Err (fault.Source e)) next = (e ≡ record { why = Unexpected x.0.0; wanted = wanted_of state }) × (after_token state x.0.2 ≡ None)
 StandsAs state x (Err (fault.Memory a)) next = ⊤
 
 -- after the end and after a fault nothing is left

@@ -7,7 +7,7 @@ ghost use Rattle.fallible_iterator.specs.Lists.{Lists};
 ghost use Rattle.fallible_iterator.specs.Making.{ListsMade};
 ghost use Rattle.fallible_iterator.specs.Own.{DrawsOn};
 ghost use Rattle.fallible_iterator.specs.Peeking.Peekable.{peekable_made};
-ghost use Rattle.fallible_json.specs.Checked.{IsFirstChecked, IsMemory, IsSeen, StandsAs, TakesChecked, TakesText, TakesTextRun, checked, checked_contract, kind_of, literal_kind, sourced, state_of, state_unless, text_kind, text_run_of, texted};
+ghost use Rattle.fallible_json.specs.Checked.{IsFirstChecked, IsMemory, IsSeen, StandsAs, TakesChecked, TakesText, TakesTextRun, checked, checked_contract, fault_in, kind_of, literal_kind, sourced, state_of, state_unless, text_kind, text_run_of, texted};
 ghost use Rattle.fallible_json.specs.Grammar.{begin};
 ghost use Rattle.fallible_json.specs.Laws.Checked.{lawful_checked};
 ghost use Rattle.fallible_json.specs.Lexing.{Placed};
@@ -104,8 +104,25 @@ fn kind_of(expects: Expects, token: Token, text: &[u8]) -> Option<Kind>
     }
 }
 
-/// Why checked tokens end: a fault of theirs and what could come there, or a failed allocation.
-pub type CheckFault<E> = Fault<(Misplaced<LexFault<E>>, Wanted)>;
+/// Why tokens are no JSON text, and what could come there.
+#[derive(Clone, Copy, Debug, Drop, PartialEq, Eq)]
+pub struct TokenFault<F> {
+    /// Why they are none. Of a token that breaks off, `Unfinished` says what goes on with it.
+    pub why: Misplaced<F>,
+    /// The tokens that could come there.
+    pub wanted: Wanted,
+}
+
+// Why checked tokens end: a fault of theirs, or a failed allocation.
+type CheckFault<E> = Fault<TokenFault<LexFault<E>>>;
+
+// A fault where tokens have come to.
+fn faulty<T, E>(nesting: &Nesting, why: Misplaced<LexFault<E>>) -> Result<T, CheckFault<E>>
+    ensures { result ≡ fault_in (state_of nesting.now) why }
+{
+    let wanted = nesting.wanted();
+    Err(Fault::Source(TokenFault { why, wanted }))
+}
 
 // A failure as that of a source.
 fn sourced<T, E>(read: Result<T, E>) -> Result<T, Fault<E>>
@@ -199,7 +216,7 @@ fn stood<E>(
     match nesting.after(token) {
         Ok(()) => {}
         Err(Stop::Unexpected) => {
-            return Err(Fault::Source((Misplaced::Unexpected(first), nesting.wanted())));
+            return faulty(nesting, Misplaced::Unexpected(first));
         }
         // No memory: an allocation failed in `after`, and its fault doesn't keep the error.
         Err(Stop::Memory) => return Err(Fault::Memory(AllocError)),
@@ -236,10 +253,10 @@ where
             if nesting.is_whole() {
                 Ok(None)
             } else {
-                Err(Fault::Source((Misplaced::Ended, nesting.wanted())))
+                faulty(nesting, Misplaced::Ended)
             }
         }
-        Err(Fault::Source(e)) => Err(Fault::Source((Misplaced::Source(e), nesting.wanted()))),
+        Err(Fault::Source(e)) => faulty(nesting, Misplaced::Source(e)),
         Err(Fault::Memory(refused)) => Err(Fault::Memory(refused)),
     }
 }

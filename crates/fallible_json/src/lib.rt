@@ -18,7 +18,7 @@ mod token;
 mod wanted;
 
 pub use bytes::PlacedBytes;
-pub use checked::{CheckFault, CheckedToken, CheckedTokens, Kind};
+pub use checked::{CheckedToken, CheckedTokens, Kind, TokenFault};
 pub use fault::{JsonFault, TextFault};
 pub use json::MakeJson;
 pub use lexer::{LexFault, Tokens};

@@ -12,10 +12,9 @@ use Rattle.fallible_iterator.specs.Making.{AtRefusal, GivesMade, IsMadeOf, Lists
 use Rattle.fallible_iterator.specs.Own.{DrawsOn}
 use Rattle.fallible_iterator.specs.Traces.{Answered, end}
 use Rattle.fallible_itertools.specs.Ahead.{TakesMade}
-use Rattle.fallible_json.specs.Checked.{CheckFault, ChecksAnswer, ChecksOne, IsFirstChecked, IsMemory, IsOverAfter, IsSeen, ListsChecked, LowersAtSome, Seen, StandsAs, TakesChecked, TakesText, Texted, checked, checked_by, checked_contract, checked_step, depth_between, faulty, if_item, kind_of, rest_texted, seen_between, text_rules, texted}
+use Rattle.fallible_json.specs.Checked.{CheckFault, ChecksAnswer, ChecksOne, IsFirstChecked, IsMemory, IsOverAfter, IsSeen, ListsChecked, LowersAtSome, Seen, StandsAs, TakesChecked, TakesText, Texted, checked, checked_by, checked_contract, checked_step, depth_between, fault_in, faulty, if_item, kind_of, rest_texted, seen_between, text_rules, texted}
 use Rattle.fallible_json.specs.Grammar.{State, after_token, is_whole}
 use Rattle.fallible_json.specs.Lexing.{Lexeme, Placed}
-use Rattle.fallible_json.specs.Wanted.{wanted_of}
 use Rattle.fallible_json.specs.declared.checked.CheckedToken.{CheckedToken}
 use Rattle.fallible_json.specs.declared.checked.Kind.{Kind}
 use Rattle.fallible_json.specs.declared.grammar.Container.{Container}
@@ -23,7 +22,6 @@ use Rattle.fallible_json.specs.declared.grammar.Expects.{Expects}
 use Rattle.fallible_json.specs.declared.lexer.LexFault.{LexFault}
 use Rattle.fallible_json.specs.declared.minifying.Misplaced.TheVariants.{Source, Unexpected, Ended}
 use Rattle.fallible_json.specs.declared.token.Token.{Token}
-use Rattle.fallible_json.specs.declared.wanted.Wanted.{Wanted}
 use Rattle.fallible_itertools.proofs.Lemmas.Lexing.{lexed_others}
 
 -- ---- the first of a list
@@ -117,17 +115,21 @@ module _ {P E : Type 0} (m : Contract P Placed E) (s t : P) where
     pub takes_end : q ≡ Ok None → is_whole state ≡ true → TakesChecked m s state (Ok None) t next
     takes_end is whole = end_of (as_answer is) whole
 
-    no_end_of : (wanted : Wanted) → TakesMade m texted rest_texted s (Ok None) t → is_whole state ≡ false → wanted ≡ wanted_of state → TakesChecked m s state (Err (fault.Source (Ended, wanted))) t next
-    no_end_of wanted made whole told = record { keeps = made.keeps; lowers = tt; makes = λ l i. ap (checked state) (first_none (texted l) (made.first l i)) ∙ checked_end state false whole ∙ ap (λ w. Err (fault.Source (Ended, w)) ∷ []) (sym told) }
+    no_end_of : TakesMade m texted rest_texted s (Ok None) t → is_whole state ≡ false → TakesChecked m s state (fault_in state Ended) t next
+    no_end_of made whole = record { keeps = made.keeps; lowers = tt; makes = λ l i. ap (checked state) (first_none (texted l) (made.first l i)) ∙ checked_end state false whole }
 
-    pub takes_no_end : (wanted : Wanted) → q ≡ Ok None → is_whole state ≡ false → wanted ≡ wanted_of state → TakesChecked m s state (Err (fault.Source (Ended, wanted))) t next
-    takes_no_end wanted is whole told = no_end_of wanted (as_answer is) whole told
+    -- what is told is that
+    as_told : {r k : Result (Option (Option CheckedToken)) (CheckFault (LexFault E))} → TakesChecked m s state k t next → r ≡ k → TakesChecked m s state r t next
+    as_told h told = subst (λ z. TakesChecked m s state z t next) (sym told) h
 
-    failure_of : (e : LexFault E) (wanted : Wanted) → TakesMade m texted rest_texted s (Err e) t → wanted ≡ wanted_of state → TakesChecked m s state (Err (fault.Source (Source e, wanted))) t next
-    failure_of e wanted made told = record { keeps = made.keeps; lowers = tt; makes = λ l i. ap (checked state) (first_failure e (texted l) (made.first l i)) ∙ checked_failure state e (rest_first (texted l)) ∙ ap (λ w. Err (fault.Source (Source e, w)) ∷ []) (sym told) }
+    pub takes_no_end : {r : Result (Option (Option CheckedToken)) (CheckFault (LexFault E))} → q ≡ Ok None → is_whole state ≡ false → r ≡ fault_in state Ended → TakesChecked m s state r t next
+    takes_no_end is whole told = as_told (no_end_of (as_answer is) whole) told
 
-    pub takes_failure : (e : LexFault E) (wanted : Wanted) → q ≡ Err (fault.Source e) → wanted ≡ wanted_of state → TakesChecked m s state (Err (fault.Source (Source e, wanted))) t next
-    takes_failure e wanted is told = failure_of e wanted (as_answer is) told
+    failure_of : (e : LexFault E) → TakesMade m texted rest_texted s (Err e) t → TakesChecked m s state (fault_in state (Source e)) t next
+    failure_of e made = record { keeps = made.keeps; lowers = tt; makes = λ l i. ap (checked state) (first_failure e (texted l) (made.first l i)) ∙ checked_failure state e (rest_first (texted l)) }
+
+    pub takes_failure : (e : LexFault E) {r : Result (Option (Option CheckedToken)) (CheckFault (LexFault E))} → q ≡ Err (fault.Source e) → r ≡ fault_in state (Source e) → TakesChecked m s state r t next
+    takes_failure e is told = as_told (failure_of e (as_answer is)) told
 
 -- ---- several
 

@@ -13,7 +13,7 @@ pub returns-then-is_whole : goal.returns-then-is_whole
 returns-then-is_whole g c = takes_end (parts_as peekable_parts (peekable_contract g.I.FallibleIterator.contract)) c.args.ahead.now c.token_ahead.new.ahead c.token_ahead.result c.token_ahead.new.text.items c.token_ahead.ensures (state_of c.args.nesting.now) _ (search rules) (sym c.is_whole.ensures ∙ c.if-is_whole.true)
 
 pub returns-in-Ok-None : goal.returns-in-Ok-None
-returns-in-Ok-None g c = takes_no_end (parts_as peekable_parts (peekable_contract g.I.FallibleIterator.contract)) c.args.ahead.now c.token_ahead.new.ahead c.token_ahead.result c.token_ahead.new.text.items c.token_ahead.ensures (state_of c.args.nesting.now) _ _ (search rules) (sym c.is_whole.ensures ∙ c.if-is_whole.false) (search rules)
+returns-in-Ok-None g c = takes_no_end (parts_as peekable_parts (peekable_contract g.I.FallibleIterator.contract)) c.args.ahead.now c.token_ahead.new.ahead c.token_ahead.result c.token_ahead.new.text.items c.token_ahead.ensures (state_of c.args.nesting.now) _ (search rules) (sym c.is_whole.ensures ∙ c.if-is_whole.false) c.faulty.ensures
 
 pub returns-in-Err-Source : goal.returns-in-Err-Source
-returns-in-Err-Source g c = takes_failure (parts_as peekable_parts (peekable_contract g.I.FallibleIterator.contract)) c.args.ahead.now c.token_ahead.new.ahead c.token_ahead.result c.token_ahead.new.text.items c.token_ahead.ensures (state_of c.args.nesting.now) _ c.in-Err-Source.e _ (search rules) (search rules)
+returns-in-Err-Source g c = takes_failure (parts_as peekable_parts (peekable_contract g.I.FallibleIterator.contract)) c.args.ahead.now c.token_ahead.new.ahead c.token_ahead.result c.token_ahead.new.text.items c.token_ahead.ensures (state_of c.args.nesting.now) _ c.in-Err-Source.e (search rules) c.faulty-in-Err-Source.ensures
