@@ -290,7 +290,9 @@ where
 
 /// The tokens of one JSON text of RFC 8259, of bytes that come with their places, without the separators: each with its bytes, what it is there, and how deep.
 ///
-/// An item has come where it may stand. A fault ends them: a failure of the source, a byte that begins no token or doesn't go on with one, a token that may not stand where it stands, or the end where one is missing; and so does a failed allocation. After the end and after a fault each call returns `Ok(None)` and draws nothing. It doesn't recurse, and keeps the token alone that it reads, and a byte for each array and object that is open.
+/// An item has come where it may stand. A draw looks at the byte after the token, which stays there. A fault ends them: a failure of the source, which takes the place of the token that comes right before it; a byte that begins no token or doesn't go on with one; a token that may not stand where it stands; or the end where one is missing. So does a failed allocation. After the end and after a fault each call returns `Ok(None)` and draws nothing.
+///
+/// It doesn't recurse. It keeps the token that it reads, and a byte for each array and object that is open. Whether the bytes of a string are UTF-8 it doesn't say.
 ///
 /// Requires that the source is finite.
 #[derive(Drop)]
