@@ -32,5 +32,6 @@ pub mod TextTokens
 pub mod Texted
 pub mod TextedRun
 pub mod Tree
+pub mod Untexted
 pub mod Utf8
 pub mod Wanted

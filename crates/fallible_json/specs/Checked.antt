@@ -58,6 +58,11 @@ module _ {E : Type 0} where
   with_text text (Ok x) = Ok (x, text)
   with_text text (Err e) = Err e
 
+  -- a token alone
+  abbrev pub without_text : Result Texted (LexFault E) → Result Lexeme (LexFault E)
+  without_text (Ok x) = Ok x.0
+  without_text (Err e) = Err e
+
   -- the token that a run is, or why it is none
   abbrev pub text_closed : ℕ → TextRun → Result Texted (LexFault E)
   text_closed first (last, phase, text) = with_text text (closed first last phase)
