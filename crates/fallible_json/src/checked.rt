@@ -50,7 +50,7 @@ pub enum Kind {
 pub struct CheckedToken {
     /// What it is.
     pub kind: Kind,
-    /// How many arrays and objects are open around it. The begin and the end of one have the same.
+    /// How many arrays and objects are open around it. The begin and the end of one have the same, and all between them a greater one: so a `find` skips it.
     pub depth: usize,
     /// The place of its first byte.
     pub first: usize,

@@ -308,3 +308,24 @@ fn checked_tokens_end_at_the_fault_of_the_check() {
     assert_eq!(tokens.next().unwrap_err().to_string(), "a fern");
     assert!(tokens.next().unwrap().is_none());
 }
+
+#[test]
+fn a_container_is_skipped_to_its_end() {
+    let text = &b"{\"a\": [1, [2, {\"b\": 3}], 4], \"c\": 5}"[..];
+    let mut tokens = CheckedTokens::new(PlacedBytes::new(text));
+    let mut names = Vec::new();
+    while let Some(token) = tokens.next().unwrap() {
+        match token.kind {
+            Kind::Name => names.push(token.text),
+            Kind::BeginArray => {
+                let end = tokens
+                    .find(|it| Ok(it.depth <= token.depth))
+                    .unwrap()
+                    .unwrap();
+                assert_eq!((end.kind, end.depth, end.first), (Kind::EndArray, 1, 26));
+            }
+            _ => {}
+        }
+    }
+    assert_eq!(names, [&b"\"a\""[..], b"\"c\""]);
+}
