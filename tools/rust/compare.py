@@ -47,6 +47,7 @@ REASONS = [
     (r"fallible_itertools_adapters/peeking_take_while\.rs", r"none_held_or_accepts", "left out",
      "`next_accepted` of `Peekable` goes by `peek`"),
     (r"writing\.rs", r"WriteText for W\.write_text", "changed", "std's `write_fmt` takes what `format_args!` makes"),
+    (r"checked\.rs", r"\w+ for CheckedTokens\.(clone|fmt)", "new", "what `derive_where` would write"),
     (r"lexer\.rs", r"\w+ for Tokens\.(clone|fmt)", "new", "what `derive_where` would write"),
     (r"main\.rs", r"main", "new", "it calls the proved `main`, which is `started`"),
 ]

@@ -61,12 +61,13 @@ RENAMED = [(r"\bfn new(?=\(reader: R\) -> Messages<R>)", "fn unbuffered"), (r"\b
 # What most types have: of each, by its name.
 DERIVED = {
     "Debug": "Lent Buffered Messages Rows Refusal Input Given", "Clone, Debug": "PlacedBytes Texts Nesting Cells Columns Bytes",
-    "Clone, Debug, PartialEq, Eq": "Message Row Reply",
+    "Clone, Debug, PartialEq, Eq": "CheckedToken Message Row Reply",
 }
 DERIVES = [(r"^(?:#\[derive\(Debug\)\]\n|(?<!#\[derive\(Debug\)\]\n))(?=pub(?:\(crate\))? (?:struct|enum) (?:%s)\b)" % names.replace(" ", "|"), "#[derive(%s)]\n" % traits)
          for traits, names in DERIVED.items()]
 WORD += [(r"^#\[derive\(Clone, Copy(?:, PartialEq, Eq)?(?=\)\]\npub\(crate\) enum (?:Container|Expects)\b)", r"\g<0>, Debug"),
          (r"(?s)\A.*^pub struct Tokens<.*\Z", r"\g<0>" + (STATIC / "pieces/tokens.rs").read_text(encoding="utf-8")),
+         (r"(?s)\A.*^pub struct CheckedTokens<.*\Z", r"\g<0>" + (STATIC / "pieces/checked_tokens.rs").read_text(encoding="utf-8")),
          # What is written by hand uses it too.
          (r"^fn (?=(?:field|is_copy|is_call)\()", "pub(crate) fn "),
          # A reader of std has no buffer that it tells of.

@@ -219,7 +219,7 @@ class Refusals(unittest.TestCase):
                             r"^impl\b[^{;]*\b%s\s+for %s\b" % (trait, name), text, re.M)
                         if not has and not (trait == "Clone" and name in uncloned):
                             self.fail("%s of %s has no %s" % (name, crate, trait))
-        self.assertTrue({"KMerge", "KMergeBy", "Tokens", "PlacedBytes", "Texts", "Rows", "Messages", "Cells", "Columns", "Buffered", "Lent",
+        self.assertTrue({"KMerge", "KMergeBy", "Tokens", "CheckedTokens", "PlacedBytes", "Texts", "Rows", "Messages", "Cells", "Columns", "Buffered", "Lent",
                          "Bytes", "Peekable"} <= shown, shown)
 
     def test_a_repository_is_named_where_it_is_given(self):

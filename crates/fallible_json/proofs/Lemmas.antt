@@ -1,6 +1,7 @@
 -- The lemmas of the crate.
 pub mod Beginning
 pub mod Buffer
+pub mod Checked
 pub mod Fault
 pub mod FewTexts
 pub mod Front
@@ -28,6 +29,9 @@ pub mod Text
 pub mod TextDraws
 pub mod TextRun
 pub mod TextTokens
+pub mod Texted
+pub mod TextedRun
 pub mod Tree
+pub mod Untexted
 pub mod Utf8
 pub mod Wanted

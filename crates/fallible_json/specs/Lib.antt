@@ -1,9 +1,11 @@
 -- What the clauses of `src/` cite.
 pub mod Bytes
+pub mod Checked
 pub mod Expected
 pub mod Faults
 pub mod Grammar
 pub mod Json
+pub mod Laws
 pub mod Lexing
 pub mod Minifying
 pub mod Places

@@ -4,10 +4,11 @@ ghost use Rattle.std.specs.Str.{IsUtf8};
 ghost use Rattle.std.specs.Str.Lossy.{utf8_valid_len};
 ghost use Rattle.std.specs.declared.convert.Infallible.{Infallible};
 ghost use Rattle.fallible_iterator.specs.Lists.{items, numbered};
+ghost use Rattle.fallible_json.specs.Checked.{texted, without_text};
 ghost use Rattle.fallible_json.specs.Expected.{GoOnWith};
 ghost use Rattle.fallible_json.specs.Grammar.{IsJsonText};
 ghost use Rattle.fallible_json.specs.Json.{IsJson, not_text_at, told};
-ghost use Rattle.fallible_json.specs.Lexing.{Lexeme, lexed};
+ghost use Rattle.fallible_json.specs.Lexing.{Lexeme, Placed, lexed};
 ghost use Rattle.fallible_json.specs.Minifying.{bytes_of_all, minified, minified_or_wanted};
 ghost use Rattle.fallible_json.specs.Places.{place_of};
 ghost use Rattle.fallible_json.specs.Spelled.{Spell, SpellLongest, tokens_with_bytes};
@@ -72,6 +73,11 @@ pub fn law_lexed<E>()
         → lexed {E = E} (numbered 0 (items bytes)) ≡ items lexemes → SpellLongest bytes lexemes }
     ensures spelled { (bytes : List ℕ) (lexemes : List Lexeme) → SpellLongest bytes lexemes
         → lexed {E = E} (numbered 0 (items bytes)) ≡ items lexemes }
+{}
+
+/// The tokens of placed bytes with their text are their tokens.
+pub fn law_texted<E>()
+    ensures { (l : List (Result Placed E)) → map without_text (texted l) ≡ lexed l }
 {}
 
 /// Bytes are a JSON text if and only if they are UTF-8 and by the rules of RFC 8259 they are tokens with blanks between, and the tokens are what is written of a tree.

@@ -25,7 +25,7 @@ pub enum LexFault<E> {
 }
 
 // The token with a byte that goes on with it.
-fn with_byte(phase: Phase, byte: u8) -> Phase
+pub(crate) fn with_byte(phase: Phase, byte: u8) -> Phase
     ensures { result ≡ with_byte phase byte }
 {
     after(phase, byte).unwrap_or(phase)

@@ -2,6 +2,7 @@
 #![tactic(auto)]
 
 mod bytes;
+mod checked;
 mod fault;
 mod grammar;
 mod json;
@@ -17,6 +18,7 @@ mod token;
 mod wanted;
 
 pub use bytes::PlacedBytes;
+pub use checked::{CheckedToken, CheckedTokens, Kind, TokenFault};
 pub use fault::{JsonFault, TextFault};
 pub use json::MakeJson;
 pub use lexer::{LexFault, Tokens};

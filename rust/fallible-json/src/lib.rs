@@ -19,6 +19,7 @@ extern crate std;
 
 mod bytes;
 mod calls;
+mod checked;
 mod errors;
 mod fault;
 mod grammar;
@@ -36,6 +37,7 @@ mod wanted;
 pub mod words;
 
 pub use bytes::PlacedBytes;
+pub use checked::{CheckedToken, CheckedTokens, Kind, TokenFault};
 pub use fault::{JsonFault, TextFault};
 pub use lexer::{LexFault, Tokens};
 pub use minifying::Misplaced;

@@ -1,4 +1,5 @@
 //! What faults say, in the words that the program `json_tokens` prints of them.
+use crate::checked::TokenFault;
 use crate::fault::{JsonFault, TextFault};
 use crate::lexer::LexFault;
 use crate::minifying::Misplaced;
@@ -86,9 +87,18 @@ impl<E: fmt::Display> fmt::Display for Misplaced<E> {
     }
 }
 
+impl<E: fmt::Display> fmt::Display for TokenFault<E> {
+    fn fmt(&self, f: &mut fmt::Formatter<'_>) -> fmt::Result {
+        match &self.why {
+            Misplaced::Source(failure) => failure.fmt(f),
+            why => write!(f, "{why}, expected {}", self.wanted),
+        }
+    }
+}
+
 #[cfg(feature = "std")]
 mod sources {
-    use super::{JsonFault, LexFault, Misplaced, TextFault};
+    use super::{JsonFault, LexFault, Misplaced, TextFault, TokenFault};
     use std::error::Error;
 
     impl Error for JsonFault {}
@@ -102,6 +112,12 @@ mod sources {
                 LexFault::Source(failure) => failure.source(),
                 LexFault::Unknown(_) | LexFault::Unfinished(_, _) => None,
             }
+        }
+    }
+
+    impl<E: Error> Error for TokenFault<E> {
+        fn source(&self) -> Option<&(dyn Error + 'static)> {
+            self.why.source()
         }
     }
 

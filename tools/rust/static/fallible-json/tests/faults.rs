@@ -1,8 +1,8 @@
 //! Faults as errors of Rust, and texts of bytes that come a chunk at a time.
 use fallible_iterator::{convert, FallibleIterator};
 use fallible_json::{
-    json_of, minify, run, Fault, JsonFault, PlacedBytes, Prints, RunFault, TextFault, Texts,
-    Tokens, Wanted,
+    CheckedTokens, Fault, JsonFault, Kind, PlacedBytes, Prints, RunFault, TextFault, Texts, Tokens,
+    Wanted, json_of, minify, run,
 };
 use program_io::fault::InputFault;
 use std::error::Error;
@@ -177,4 +177,101 @@ fn a_failed_read_keeps_its_error() {
     let fault = run(Prints::Texts, &mut reader, &mut Vec::new()).unwrap_err();
     assert_eq!(fault.to_string(), "read failed");
     assert_eq!(fault.source().unwrap().to_string(), "a fern");
+}
+
+type Seen = (Kind, usize, String);
+
+/// The checked tokens of a text up to the end or the first fault, and what that says.
+fn checked(text: &[u8]) -> (Vec<Seen>, Option<String>) {
+    let mut tokens = CheckedTokens::new(PlacedBytes::new(text));
+    let mut seen = Vec::new();
+    loop {
+        match tokens.next() {
+            Ok(Some(token)) => {
+                assert_eq!(token.text, &text[token.first..=token.last]);
+                seen.push((
+                    token.kind,
+                    token.depth,
+                    String::from_utf8(token.text).unwrap(),
+                ));
+            }
+            Ok(None) => return (seen, None),
+            Err(fault) => {
+                assert!(matches!(tokens.next(), Ok(None)));
+                return (seen, Some(fault.to_string()));
+            }
+        }
+    }
+}
+
+#[test]
+fn checked_tokens_have_their_kind_their_depth_and_their_text() {
+    let (seen, fault) =
+        checked(b" {\"pr\\u0069ce\": [1.5, -2e3], \"a\": {\"b\": \"c\"}, \"d\": [true, false, null]}\n");
+    assert_eq!(fault, None);
+    let shown: Vec<_> = seen.iter().map(|(kind, depth, text)| (*kind, *depth, &text[..])).collect();
+    assert_eq!(
+        shown,
+        [
+            (Kind::BeginObject, 0, "{"),
+            (Kind::Name, 1, "\"pr\\u0069ce\""),
+            (Kind::BeginArray, 1, "["),
+            (Kind::Number, 2, "1.5"),
+            (Kind::Number, 2, "-2e3"),
+            (Kind::EndArray, 1, "]"),
+            (Kind::Name, 1, "\"a\""),
+            (Kind::BeginObject, 1, "{"),
+            (Kind::Name, 2, "\"b\""),
+            (Kind::Text, 2, "\"c\""),
+            (Kind::EndObject, 1, "}"),
+            (Kind::Name, 1, "\"d\""),
+            (Kind::BeginArray, 1, "["),
+            (Kind::True, 2, "true"),
+            (Kind::False, 2, "false"),
+            (Kind::Null, 2, "null"),
+            (Kind::EndArray, 1, "]"),
+            (Kind::EndObject, 0, "}"),
+        ]
+    );
+}
+
+#[test]
+fn checked_tokens_end_at_the_fault_of_the_check() {
+    for (text, kinds, said) in [
+        ("{\"price\" 1.5,,]", 2, "the token at byte 9 may not stand there, expected ':'"),
+        ("[1,,2]", 2, "the token at byte 3 may not stand there, expected a value"),
+        ("[1]2", 3, "the token at byte 3 may not stand there, expected the end"),
+        ("[", 1, "the tokens end where one is missing, expected a value or ']'"),
+        ("", 0, "the tokens end where one is missing, expected a value"),
+        ("[?", 1, "byte 1 begins no token"),
+        ("[tru]", 1, "byte 3 is the last of a token that isn't whole, expected 'e'"),
+    ] {
+        let (seen, fault) = checked(text.as_bytes());
+        assert_eq!((seen.len(), fault.as_deref()), (kinds, Some(said)), "{text}");
+        let minified = minify(text.as_bytes(), Tokens::new(PlacedBytes::new(text.as_bytes())));
+        assert_eq!(minified.unwrap_err().to_string(), said);
+    }
+    let bytes = [Ok((0, b'[')), Ok((1, b' ')), Err(io::Error::new(ErrorKind::Other, "a fern"))];
+    let mut tokens = CheckedTokens::new(convert(bytes.into_iter()));
+    assert_eq!(tokens.next().unwrap().unwrap().kind, Kind::BeginArray);
+    assert_eq!(tokens.next().unwrap_err().to_string(), "a fern");
+    assert!(tokens.next().unwrap().is_none());
+}
+
+#[test]
+fn a_container_is_skipped_to_its_end() {
+    let text = &b"{\"a\": [1, [2, {\"b\": 3}], 4], \"c\": 5}"[..];
+    let mut tokens = CheckedTokens::new(PlacedBytes::new(text));
+    let mut names = Vec::new();
+    while let Some(token) = tokens.next().unwrap() {
+        match token.kind {
+            Kind::Name => names.push(token.text),
+            Kind::BeginArray => {
+                let end = tokens.find(|it| Ok(it.depth <= token.depth)).unwrap().unwrap();
+                assert_eq!((end.kind, end.depth, end.first), (Kind::EndArray, 1, 26));
+            }
+            _ => {}
+        }
+    }
+    assert_eq!(names, [&b"\"a\""[..], b"\"c\""]);
 }

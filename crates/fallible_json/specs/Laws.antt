@@ -1,0 +1,2 @@
+-- Why the contracts of the crate are lawful.
+pub mod Checked
