@@ -6,7 +6,7 @@
 mod program;
 mod words;
 
-use fallible_pg::{Messages, PgInput, Rows};
+use fallible_pg::{Messages, PgInput, RowText, Rows};
 use program::program;
 use program_io::arguments::{Given, input_asked, told, words_of};
 use program_io::ending::ended;
@@ -38,7 +38,7 @@ fn main(rt: HostRuntime) -> ExitCode {
     let ended = match BufReader::new(rt.alloc(), input) {
         Ok(reader) => {
             let mut rows = Rows::recorded(Messages::new(rt.alloc(), Buffered::new(reader)));
-            let mut text = Vec::new(rt.alloc());
+            let mut text = RowText::new(rt.alloc());
             program(
                 &mut rows,
                 format_of(&null, csv),

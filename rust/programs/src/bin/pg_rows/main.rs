@@ -14,7 +14,7 @@
 mod program;
 mod words;
 
-use fallible_pg::{Messages, PgInput, Rows};
+use fallible_pg::{Messages, PgInput, RowText, Rows};
 use program::program;
 use program_io::arguments::{Given, input_asked, told, words_of};
 use program_io::ending::ended;
@@ -52,7 +52,7 @@ fn started(rt: HostRuntime) -> ExitCode {
     let ended = match BufReader::try_new(input) {
         Ok(reader) => {
             let mut rows = Rows::recorded(Messages::unbuffered(Buffered::new(reader)));
-            let mut text = Vec::new();
+            let mut text = RowText::new();
             program(
                 &mut rows,
                 format_of(&null, csv),
