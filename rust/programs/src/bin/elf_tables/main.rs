@@ -28,7 +28,11 @@ Reads an ELF file of 64 bits, whose numbers begin with their least byte,
 and prints its sections and its address ranges; with --find the first range
 that holds ADDRESS, which is hexadecimal, with 0x or without.
 It reads one FILE at most, and standard input where FILE is - or none is given.
-A FILE whose name begins with - is given after --, or as ./-NAME.";
+A FILE whose name begins with - is given after --, or as ./-NAME.
+The status is 0 where all was printed, 1 at a damaged file, 2 where a read fails
+or a word is refused, 3 where memory is, 4 where a write fails, 5 at another
+file, 6 at ranges of a kind that isn't read, 7 where no range holds ADDRESS, and
+8 where one is looked for and the file has none.";
 
 fn main() -> ExitCode {
     started(HostRuntime)
