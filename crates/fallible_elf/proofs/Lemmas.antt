@@ -3,6 +3,7 @@ pub mod Count
 pub mod Digit
 pub mod Finding
 pub mod Name
+pub mod NoRanges
 pub mod Overlap
 pub mod Range
 pub mod Reading

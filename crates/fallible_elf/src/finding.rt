@@ -1,15 +1,15 @@
 //! The first address range of a file that holds an address.
-ghost use Rattle.std.specs.Prelude.{◌≡◌, Ok, Err, IfOk};
+ghost use Rattle.std.specs.Prelude.{◌≡◌, Ok, Err, IfOk, IsTrue, false};
 ghost use Rattle.fallible_iterator.specs.Fault.{Fault};
 ghost use Rattle.fallible_iterator.specs.Lists.{found};
 ghost use Rattle.program_io.specs.Reading.{Fails};
-ghost use Rattle.fallible_elf.specs.Finding.{Finds, FindsIn, first_range_at, holds, status_of, text_of};
+ghost use Rattle.fallible_elf.specs.Finding.{Finds, FindsIn, HasNoRanges, first_range_at, holds, status_of, text_of};
 ghost use Rattle.fallible_elf.specs.Sets.{ranges_of};
 ghost use Rattle.fallible_elf.specs.declared.fault.ElfFault.{ElfFault};
 
 use crate::fault::ElfFault;
 use crate::lines::write_range;
-use crate::ranges::{MOST, SetIn};
+use crate::ranges::{MOST, SetIn, count_ranges};
 use crate::reading::read_file;
 use crate::sections::sections_of;
 use crate::set::Range;
@@ -30,6 +30,8 @@ pub enum FindFault {
     File(ElfFault),
     /// No range of the file holds this address.
     NoRange(u64),
+    /// The file has no range.
+    NoRanges,
 }
 
 // Whether a range holds an address.
@@ -68,6 +70,22 @@ pub fn range_at(alloc: Global, file: &[u8], address: u64) -> Result<Option<Range
     }
 }
 
+// Whether a file has no range.
+fn has_no_ranges(file: &[u8]) -> bool
+    ensures none { IsTrue result → HasNoRanges file.now }
+    ensures some { result ≡ false → ¬ (HasNoRanges file.now) }
+{
+    match count_ranges(file) {
+        Ok(count) => {
+            if count > 0 {
+                return false;
+            }
+            true
+        }
+        Err(_) => false,
+    }
+}
+
 // Writes the line of the first range of a file that holds an address.
 fn find_in<W: WriteText>(
     alloc: Global,
@@ -83,13 +101,18 @@ fn find_in<W: WriteText>(
             Ok(()) => Ok(()),
             Err(_) => Err(RunFault::Write),
         },
-        Ok(None) => Err(RunFault::Input(FindFault::NoRange(address))),
+        Ok(None) => {
+            if has_no_ranges(file) {
+                return Err(RunFault::Input(FindFault::NoRanges));
+            }
+            Err(RunFault::Input(FindFault::NoRange(address)))
+        }
         Err(Fault::Source(fault)) => Err(RunFault::Input(FindFault::File(fault))),
         Err(Fault::Memory(_)) => Err(RunFault::Memory),
     }
 }
 
-/// Reads a file up to the end of `reader`, and writes the line of its first range that holds an address, as it stands in the report. It fails with `Input` and the file's first fault, where it has one, or that no range holds the address; with `Read` where a read fails, with `Memory` if an allocation fails, and with `Write` where the writer fails. At all but `Write` nothing is written. It looks at the header first, as `report::run` does. An interrupted read is tried again.
+/// Reads a file up to the end of `reader`, and writes the line of its first range that holds an address, as it stands in the report. It fails with `Input` and the file's first fault, where it has one, that no range holds the address, or that it has none; with `Read` where a read fails, with `Memory` if an allocation fails, and with `Write` where the writer fails. At all but `Write` nothing is written. It looks at the header first, as `report::run` does. An interrupted read is tried again.
 pub fn find<R: ReadBytes, W: WriteText>(
     alloc: Global,
     address: u64,
@@ -111,11 +134,12 @@ impl InputFault for FindFault {
 
     ghost text = { text_of };
 
-    /// That of the file's fault, and 7 where no range holds the address.
+    /// That of the file's fault, 7 where no range holds the address, and 8 where the file has no range.
     fn status(&self) -> u8 {
         match self {
             FindFault::File(fault) => fault.status(),
             FindFault::NoRange(_) => 7,
+            FindFault::NoRanges => 8,
         }
     }
 
@@ -124,6 +148,9 @@ impl InputFault for FindFault {
             FindFault::File(fault) => fault.write_line(errors),
             FindFault::NoRange(address) => {
                 errors.write_text(format_args!("no range holds 0x{:x}\n", *address))
+            }
+            FindFault::NoRanges => {
+                errors.write_bytes(b"no address ranges: no section .debug_aranges has one\n")
             }
         }
     }

@@ -8,6 +8,7 @@ pub mod Draw
 pub mod Field
 pub mod List
 pub mod Print
+pub mod Putting
 pub mod Reading
 pub mod Row
 pub mod Scram

@@ -12,6 +12,7 @@ pub mod Listed
 pub mod Messages
 pub mod Numbers
 pub mod Progress
+pub mod Putting
 pub mod Reading
 pub mod Report
 pub mod Rows

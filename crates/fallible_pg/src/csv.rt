@@ -1,9 +1,10 @@
 //! Fields of CSV, as psql writes them.
 ghost use Rattle.std.specs.Prelude.{◌≡◌, ◌∷◌, ◌++◌, [], OnOk, OnErr};
 ghost use Rattle.std.specs.Io.KnownBytes.{Appends};
+ghost use Rattle.fallible_pg.specs.Putting.{StopsWithin};
 ghost use Rattle.fallible_pg.specs.Csv.{csv_text, doubled, has_special, is_quoted, is_special, within_quotes};
 
-use program_io::writing::WriteText;
+use crate::putting::PutBytes;
 use std::io;
 
 // Whether a field with this byte is quoted: a quote, a comma, or an end of a line.
@@ -33,23 +34,25 @@ fn is_quoted(field: &[u8]) -> bool
 }
 
 // Writes a byte within quotes: a quote twice.
-fn write_within<W: WriteText>(byte: u8, writer: &mut W) -> io::Result<()>
+fn write_within<P: PutBytes>(byte: u8, writer: &mut P) -> io::Result<()>
     ensures text { OnOk result
-        (Appends (W.written writer.old) (W.written writer.new) (within_quotes byte)) }
-    ensures failed { OnErr result (W.failed writer.new) }
+        (Appends (P.written writer.old) (P.written writer.new) (within_quotes byte)) }
+    ensures stops { OnErr result (StopsWithin P.written P.refuses writer.old writer.new
+        (within_quotes byte)) }
 {
     if byte == b'"' {
-        writer.write_bytes(b"\"\"")
+        writer.put_bytes(b"\"\"")
     } else {
-        writer.write_bytes(&[byte])
+        writer.put_bytes(&[byte])
     }
 }
 
 // Writes the bytes of a field within quotes.
-fn write_doubled<W: WriteText>(field: &[u8], writer: &mut W) -> io::Result<()>
+fn write_doubled<P: PutBytes>(field: &[u8], writer: &mut P) -> io::Result<()>
     ensures text { OnOk result
-        (Appends (W.written writer.old) (W.written writer.new) (doubled field.now)) }
-    ensures failed { OnErr result (W.failed writer.new) }
+        (Appends (P.written writer.old) (P.written writer.new) (doubled field.now)) }
+    ensures stops { OnErr result (StopsWithin P.written P.refuses writer.old writer.new
+        (doubled field.now)) }
 {
     for byte in field {
         write_within(*byte, writer)?;
@@ -58,25 +61,27 @@ fn write_doubled<W: WriteText>(field: &[u8], writer: &mut W) -> io::Result<()>
 }
 
 // Writes a field that is quoted.
-fn write_quoted<W: WriteText>(field: &[u8], writer: &mut W) -> io::Result<()>
-    ensures text { OnOk result (Appends (W.written writer.old) (W.written writer.new)
+fn write_quoted<P: PutBytes>(field: &[u8], writer: &mut P) -> io::Result<()>
+    ensures text { OnOk result (Appends (P.written writer.old) (P.written writer.new)
         (34 ∷ doubled field.now ++ 34 ∷ [])) }
-    ensures failed { OnErr result (W.failed writer.new) }
+    ensures stops { OnErr result (StopsWithin P.written P.refuses writer.old writer.new
+        (34 ∷ doubled field.now ++ 34 ∷ [])) }
 {
-    writer.write_bytes(b"\"")?;
+    writer.put_bytes(b"\"")?;
     write_doubled(field, writer)?;
-    writer.write_bytes(b"\"")
+    writer.put_bytes(b"\"")
 }
 
 // Writes a field.
-pub(crate) fn write_field<W: WriteText>(field: &[u8], writer: &mut W) -> io::Result<()>
+pub(crate) fn write_field<P: PutBytes>(field: &[u8], writer: &mut P) -> io::Result<()>
     ensures text { OnOk result
-        (Appends (W.written writer.old) (W.written writer.new) (csv_text field.now)) }
-    ensures failed { OnErr result (W.failed writer.new) }
+        (Appends (P.written writer.old) (P.written writer.new) (csv_text field.now)) }
+    ensures stops { OnErr result (StopsWithin P.written P.refuses writer.old writer.new
+        (csv_text field.now)) }
 {
     if is_quoted(field) {
         write_quoted(field, writer)
     } else {
-        writer.write_bytes(field)
+        writer.put_bytes(field)
     }
 }

@@ -1,9 +1,10 @@
 //! What the words of the clauses come to, as functions whose body is empty.
 ghost use Rattle.std.specs.Prelude.{◌≡◌, ℕ, ◌+◌, ◌^◌, ◌≤◌, List, length, Option, Some, Result, false};
 ghost use Rattle.fallible_pg.specs.Progress.{Reached};
-ghost use Rattle.fallible_pg.specs.Text.{Form};
+ghost use Rattle.fallible_pg.specs.Text.{Form, row_text};
 ghost use Rattle.fallible_iterator.specs.Traces.{Answered};
 ghost use Rattle.fallible_pg.specs.Draws.{DrawsBytes};
+ghost use Rattle.fallible_pg.specs.Putting.{LacksRoom};
 ghost use Rattle.fallible_pg.specs.Report.{ComesTo, IsReportOf};
 ghost use Rattle.fallible_pg.specs.Rows.{rows_parts};
 ghost use Rattle.fallible_pg.specs.declared.printing.PgInput.{PgInput};
@@ -13,9 +14,9 @@ ghost use Rattle.program_io.specs.Bytes.{NoReadFails};
 ghost use Rattle.fallible_pg.specs.declared.fault.PgFault.{PgFault};
 ghost use Rattle.fallible_pg.specs.declared.rows.Reply.{Reply};
 
+use crate::holding::HoldText;
 use crate::reading::ReadMessage;
 use crate::rows::Rows;
-use crate::text::HoldText;
 use fallible_iterator::FallibleIterator;
 use program_io::writing::WriteText;
 
@@ -42,6 +43,6 @@ pub fn law_turns<R: ReadMessage>()
 pub fn law_report<R: ReadMessage, T: HoldText, W: WriteText, E: WriteText>()
     ensures { (reached : Reached) (form : Form) (input after : R) (written written' told told' : Option (List ℕ)) (output : W) (errors : E) (bytes : List ℕ)
         (outcome : Result (Unit {0}) (RunFault PgInput)) → R.left input ≡ Some bytes
-        → ComesTo R.left R.stays R.no_room T.no_room reached form input after W.failed written written' output E.failed told told' errors outcome
+        → ComesTo R.left R.stays R.no_room (λ message. LacksRoom T.written T.refuses (row_text form message)) reached form input after W.failed written written' output E.failed told told' errors outcome
         → IsReportOf form (turns_of reached 0 bytes) written written' told told' outcome }
 {}

@@ -6,6 +6,7 @@ mod cells;
 mod columns;
 mod csv;
 mod fault;
+mod holding;
 mod kind;
 pub mod laws;
 mod message;
@@ -13,6 +14,7 @@ mod messages;
 mod numbers;
 mod printing;
 mod progress;
+mod putting;
 mod reading;
 mod report;
 mod rows;
@@ -24,10 +26,12 @@ mod text;
 pub use cells::Cells;
 pub use columns::{Column, Columns};
 pub use fault::{Damage, PgFault};
+pub use holding::{HoldText, RowText};
 pub use kind::Kind;
 pub use message::Message;
 pub use messages::Messages;
 pub use printing::PgInput;
+pub use putting::PutBytes;
 pub use reading::{Broken, ReadMessage};
 pub use report::print_rows;
 pub use rows::{Reply, Row, Rows};
@@ -36,4 +40,4 @@ pub use sending::{
     CancelKey, Request, Unsent, cancel_key_of, cancel_message, password_message, query_message,
     request_data, request_of, startup_message, terminate_message,
 };
-pub use text::{Format, HoldText, write_row};
+pub use text::{Format, write_row};

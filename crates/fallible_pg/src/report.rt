@@ -1,14 +1,16 @@
 //! Prints rows, and tells of notices.
 ghost use Rattle.std.specs.Prelude.{◌≡◌, Some, false};
+ghost use Rattle.fallible_pg.specs.Putting.{LacksRoom};
 ghost use Rattle.fallible_pg.specs.Report.{ComesTo, PutsReply, as_run_fault};
 ghost use Rattle.fallible_pg.specs.Rows.{rows_parts};
-ghost use Rattle.fallible_pg.specs.Text.{form_of};
+ghost use Rattle.fallible_pg.specs.Text.{form_of, row_text};
 
 use crate::fault::{Damage, PgFault};
+use crate::holding::HoldText;
 use crate::printing::{PgInput, write_notice};
 use crate::reading::ReadMessage;
 use crate::rows::{Reply, Rows};
-use crate::text::{Format, HoldText};
+use crate::text::Format;
 use fallible_iterator::FallibleIterator;
 use program_io::fault::RunFault;
 use program_io::writing::WriteText;
@@ -35,7 +37,9 @@ fn put_reply<T: HoldText, W: WriteText, E: WriteText>(
 ) -> Result<(), RunFault<PgInput>>
     ensures { PutsReply W.failed (W.written output.old) (W.written output.new) output.new
         E.failed (E.written errors.old) (E.written errors.new) errors.new
-        (form_of format.entry) T.no_room reply.now result }
+        (form_of format.entry)
+        (λ message. LacksRoom T.written T.refuses (row_text (form_of format.entry) message))
+        reply.now result }
 {
     match reply {
         Reply::Row(row) => {
@@ -69,7 +73,8 @@ pub fn print_rows<R: ReadMessage, T: HoldText, W: WriteText, E: WriteText>(
 ) -> Result<(), RunFault<PgInput>>
     requires { rows_parts rows.old
         ≡ (((rows_parts rows.old).0.0, Some 0), (rows_parts rows.old).1, false) }
-    ensures { ComesTo R.left R.stays R.no_room T.no_room
+    ensures { ComesTo R.left R.stays R.no_room
+        (λ message. LacksRoom T.written T.refuses (row_text (form_of format.entry) message))
         (rows_parts rows.old).1 (form_of format.entry)
         (rows_parts rows.old).0.0 (rows_parts rows.new).0.0 W.failed
         (W.written output.old) (W.written output.new) output.new E.failed

@@ -1,12 +1,14 @@
 //! Rows as text.
-ghost use Rattle.std.specs.Prelude.{◌≡◌, ◌∷◌, ℕ, List, OnOk, OnErr, true, false, vec_items, ⊤};
+ghost use Rattle.std.specs.Prelude.{◌≡◌, ◌∷◌, OnOk, OnErr};
 ghost use Rattle.std.specs.Io.KnownBytes.{Appends};
 ghost use Rattle.fallible_pg.specs.Cells.{shows_cells};
 ghost use Rattle.fallible_pg.specs.Messages.{message_bytes};
+ghost use Rattle.fallible_pg.specs.Putting.{StopsWithin};
 ghost use Rattle.fallible_pg.specs.Text.{drawn_shown, drawn_text, field_text, form_of, further_text, row_text, separator};
 
 use crate::cells::Cells;
 use crate::csv;
+use crate::putting::PutBytes;
 use crate::rows::Row;
 use fallible_iterator::FallibleIterator;
 use program_io::writing::WriteText;
@@ -41,54 +43,58 @@ impl<'a> Format<'a> {
 }
 
 // Writes what a cell has.
-fn write_shown<W: WriteText>(format: Format<'_>, field: &[u8], writer: &mut W) -> io::Result<()>
-    ensures whole { OnOk result (Appends (W.written writer.old) (W.written writer.new)
+fn write_shown<P: PutBytes>(format: Format<'_>, field: &[u8], writer: &mut P) -> io::Result<()>
+    ensures whole { OnOk result (Appends (P.written writer.old) (P.written writer.new)
         (field_text (form_of format.entry) field.now)) }
-    ensures failed { OnErr result (W.failed writer.new) }
+    ensures stops { OnErr result (StopsWithin P.written P.refuses writer.old writer.new
+        (field_text (form_of format.entry) field.now)) }
 {
     if format.csv {
         csv::write_field(field, writer)
     } else {
-        writer.write_bytes(field)
+        writer.put_bytes(field)
     }
 }
 
 // Writes a cell.
-fn write_cell<W: WriteText>(
+fn write_cell<P: PutBytes>(
     format: Format<'_>,
     cell: Option<&[u8]>,
-    writer: &mut W,
+    writer: &mut P,
 ) -> io::Result<()>
-    ensures whole { OnOk result (Appends (W.written writer.old) (W.written writer.new)
+    ensures whole { OnOk result (Appends (P.written writer.old) (P.written writer.new)
         (drawn_text (form_of format.entry) cell.entry)) }
-    ensures failed { OnErr result (W.failed writer.new) }
+    ensures stops { OnErr result (StopsWithin P.written P.refuses writer.old writer.new
+        (drawn_text (form_of format.entry) cell.entry)) }
 {
     write_shown(format, format.shown(cell), writer)
 }
 
 // Writes a separator and a cell.
-fn write_further_cell<W: WriteText>(
+fn write_further_cell<P: PutBytes>(
     format: Format<'_>,
     cell: Option<&[u8]>,
-    writer: &mut W,
+    writer: &mut P,
 ) -> io::Result<()>
-    ensures whole { OnOk result (Appends (W.written writer.old) (W.written writer.new)
+    ensures whole { OnOk result (Appends (P.written writer.old) (P.written writer.new)
         (separator (form_of format.entry) ∷ drawn_text (form_of format.entry) cell.entry)) }
-    ensures failed { OnErr result (W.failed writer.new) }
+    ensures stops { OnErr result (StopsWithin P.written P.refuses writer.old writer.new
+        (separator (form_of format.entry) ∷ drawn_text (form_of format.entry) cell.entry)) }
 {
-    writer.write_bytes(&[format.separator()])?;
+    writer.put_bytes(&[format.separator()])?;
     write_cell(format, cell, writer)
 }
 
 // Writes the further cells, a separator before each, and a newline.
-fn write_further<W: WriteText>(
+fn write_further<P: PutBytes>(
     format: Format<'_>,
     cells: &mut Cells<'_>,
-    writer: &mut W,
+    writer: &mut P,
 ) -> io::Result<()>
-    ensures whole { OnOk result (Appends (W.written writer.old) (W.written writer.new)
+    ensures whole { OnOk result (Appends (P.written writer.old) (P.written writer.new)
         (further_text (form_of format.entry) (shows_cells cells.old))) }
-    ensures failed { OnErr result (W.failed writer.new) }
+    ensures stops { OnErr result (StopsWithin P.written P.refuses writer.old writer.new
+        (further_text (form_of format.entry) (shows_cells cells.old))) }
 {
     let count = cells.left();
     for _ in 0..count {
@@ -97,18 +103,19 @@ fn write_further<W: WriteText>(
                 Ok(()) => {}
                 Err(error) => return Err(error),
             },
-            Ok(None) => return writer.write_bytes(b"\n"),
-            Err(_) => return writer.write_bytes(b"\n"),
+            Ok(None) => return writer.put_bytes(b"\n"),
+            Err(_) => return writer.put_bytes(b"\n"),
         }
     }
-    writer.write_bytes(b"\n")
+    writer.put_bytes(b"\n")
 }
 
-/// Writes a row as `psql -A -t` does, or as `psql --csv -t` does: its cells with a separator between each two, and a newline. A row without cells is nothing.
-pub fn write_row<W: WriteText>(row: &Row, format: Format<'_>, writer: &mut W) -> io::Result<()>
-    ensures whole { OnOk result (Appends (W.written writer.old) (W.written writer.new)
+// Puts the text of a row.
+pub(crate) fn put_row<P: PutBytes>(row: &Row, format: Format<'_>, writer: &mut P) -> io::Result<()>
+    ensures whole { OnOk result (Appends (P.written writer.old) (P.written writer.new)
         (row_text (form_of format.entry) (message_bytes row.now.message))) }
-    ensures failed { OnErr result (W.failed writer.new) }
+    ensures stops { OnErr result (StopsWithin P.written P.refuses writer.old writer.new
+        (row_text (form_of format.entry) (message_bytes row.now.message))) }
 {
     let mut cells = row.cells();
     match cells.next() {
@@ -121,37 +128,11 @@ pub fn write_row<W: WriteText>(row: &Row, format: Format<'_>, writer: &mut W) ->
     }
 }
 
-/// A buffer for the text of a row.
-pub trait HoldText {
-    // The text that it holds.
-    ghost held: { Self → List ℕ };
-
-    // It had no room for the text of the row whose message this is.
-    ghost no_room: { List ℕ → Type 0 };
-
-    /// Puts the text of a row, as `write_row` writes it, in the place of what it holds. Whether there was room.
-    fn hold_row(&mut self, row: &Row, format: Format<'_>) -> bool
-        ensures text { result ≡ true
-            → held self.new ≡ row_text (form_of format.entry) (message_bytes row.now.message) }
-        ensures no_room { result ≡ false → no_room (message_bytes row.now.message) };
-
-    /// The text that it holds.
-    fn held(&self) -> &[u8]
-        ensures { result.now ≡ held self.now };
-}
-
-impl HoldText for Vec<u8> {
-    ghost held = { vec_items };
-
-    // Std says of no request that it is granted.
-    ghost no_room = { λ _. ⊤ };
-
-    fn hold_row(&mut self, row: &Row, format: Format<'_>) -> bool {
-        self.clear();
-        write_row(row, format, self).is_ok()
-    }
-
-    fn held(&self) -> &[u8] {
-        self.as_slice()
-    }
+/// Writes a row as `psql -A -t` does, or as `psql --csv -t` does: its cells with a separator between each two, and a newline. A row without cells is nothing.
+pub fn write_row<W: WriteText>(row: &Row, format: Format<'_>, writer: &mut W) -> io::Result<()>
+    ensures whole { OnOk result (Appends (W.written writer.old) (W.written writer.new)
+        (row_text (form_of format.entry) (message_bytes row.now.message))) }
+    ensures failed { OnErr result (W.failed writer.new) }
+{
+    put_row(row, format, writer)
 }

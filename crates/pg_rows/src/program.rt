@@ -1,9 +1,10 @@
 // The program, over any input and any two outputs.
 ghost use Rattle.std.specs.Prelude.{◌≡◌, Some, false};
 ghost use Rattle.fallible_pg.specs.Faults.{status_of, text_of};
+ghost use Rattle.fallible_pg.specs.Putting.{LacksRoom};
 ghost use Rattle.fallible_pg.specs.Report.{ComesTo};
 ghost use Rattle.fallible_pg.specs.Rows.{rows_parts};
-ghost use Rattle.fallible_pg.specs.Text.{form_of};
+ghost use Rattle.fallible_pg.specs.Text.{form_of, row_text};
 ghost use Rattle.program_io.specs.Endings.{EndsWith};
 
 use fallible_pg::{Format, HoldText, ReadMessage, Rows, print_rows};
@@ -24,7 +25,8 @@ pub(crate) fn program<R: ReadMessage, T: HoldText, W: WriteText, E: WriteText>(
     // The notices were told by then.
     ensures { (heard : E) × EndsWith status_of text_of name.entry
         (E.written heard) (E.written errors.new) (E.failed errors.new)
-        (ComesTo R.left R.stays R.no_room T.no_room
+        (ComesTo R.left R.stays R.no_room
+        (λ message. LacksRoom T.written T.refuses (row_text (form_of format.entry) message))
         (rows_parts rows.old).1 (form_of format.entry)
         (rows_parts rows.old).0.0 (rows_parts rows.new).0.0 W.failed
         (W.written output.old) (W.written output.new) output.new E.failed

@@ -193,8 +193,9 @@ fn print_groups(
     report: Vec<u8>,
     rows: &[Row],
 ) -> Result<Vec<u8>, RunFault<GroupsFault>>
-    ensures { IfOk result
-        (λ printed. vec_items printed ≡ vec_items report ++ groups_text rows.now) }
+    ensures { MatchResult result
+        (λ printed. vec_items printed ≡ vec_items report ++ groups_text rows.now)
+        (λ fault. fault ≡ Memory) }
 {
     convert::<Row, AllocError, _>(rows.iter().copied().map(Ok))
         .chunk_by(alloc, |row: &Row| Ok(row.key))
@@ -209,8 +210,9 @@ fn print_batches(
     report: Vec<u8>,
     rows: &[Row],
 ) -> Result<Vec<u8>, RunFault<GroupsFault>>
-    ensures { IfOk result
-        (λ printed. vec_items printed ≡ vec_items report ++ batches_text rows.now) }
+    ensures { MatchResult result
+        (λ printed. vec_items printed ≡ vec_items report ++ batches_text rows.now)
+        (λ fault. fault ≡ Memory) }
 {
     convert::<Row, AllocError, _>(rows.iter().copied().map(Ok))
         .chunks(alloc, BATCH)
@@ -231,7 +233,8 @@ fn first_key(rows: &[Row]) -> u64
 
 // The groups and then the batches of rows, each under a heading.
 fn print_both(alloc: Global, rows: &[Row]) -> Result<Vec<u8>, RunFault<GroupsFault>>
-    ensures { IfOk result (λ printed. vec_items printed ≡ report_of rows.now) }
+    ensures { MatchResult result (λ printed. vec_items printed ≡ report_of rows.now)
+        (λ fault. fault ≡ Memory) }
 {
     let heading = Vec::from_slice(alloc, b"groups\n")?;
     let mut groups = print_groups(alloc, heading, rows)?;
@@ -271,10 +274,6 @@ impl MakeReport for Global {
             Err(Fault::Source(bad)) => return Err(RunFault::Input(GroupsFault::Row(bad))),
             Err(Fault::Memory(_)) => return Err(fault_of(text)),
         };
-        match print_both(*self, rows.as_slice()) {
-            Ok(report) => Ok(report),
-            // No memory: the rows don't fail, so printing fails only if an allocation does.
-            Err(_) => Err(RunFault::Memory),
-        }
+        print_both(*self, rows.as_slice())
     }
 }

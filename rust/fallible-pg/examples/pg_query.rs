@@ -7,8 +7,8 @@
 //! Messages, rows, and what is sent are the crate's. The socket and the session's start are written by hand.
 use fallible_iterator::FallibleIterator;
 use fallible_pg::{
-    Buffered, Damage, Format, Lent, Messages, PgFault, PgInput, ReadByte, Request, Rows, RunFault,
-    Unsent, password_message, print_rows, query_message, request_of, startup_message,
+    Buffered, Damage, Format, Lent, Messages, PgFault, PgInput, ReadByte, Request, RowText, Rows,
+    RunFault, Unsent, password_message, print_rows, query_message, request_of, startup_message,
     terminate_message,
 };
 use program_io::ending::ended;
@@ -113,7 +113,7 @@ pub fn run(
         null: b"",
         csv: false,
     };
-    let printed = print_rows(&mut rows, format, &mut Vec::new(), output, errors);
+    let printed = print_rows(&mut rows, format, &mut RowText::new(), output, errors);
     // The server ends the session too where the connection is closed.
     let _ = send(writer, terminate_message());
     printed.map_err(Stopped::Run)

@@ -1,7 +1,7 @@
 //! Fields of CSV, as psql writes them.
 
 #[cfg(feature = "std")]
-use program_io::writing::WriteText;
+use crate::putting::PutBytes;
 #[cfg(feature = "std")]
 use std::io;
 
@@ -27,17 +27,17 @@ fn is_quoted(field: &[u8]) -> bool {
 
 // Writes a byte within quotes: a quote twice.
 #[cfg(feature = "std")]
-fn write_within<W: WriteText>(byte: u8, writer: &mut W) -> io::Result<()> {
+fn write_within<P: PutBytes>(byte: u8, writer: &mut P) -> io::Result<()> {
     if byte == b'"' {
-        writer.write_bytes(b"\"\"")
+        writer.put_bytes(b"\"\"")
     } else {
-        writer.write_bytes(&[byte])
+        writer.put_bytes(&[byte])
     }
 }
 
 // Writes the bytes of a field within quotes.
 #[cfg(feature = "std")]
-fn write_doubled<W: WriteText>(field: &[u8], writer: &mut W) -> io::Result<()> {
+fn write_doubled<P: PutBytes>(field: &[u8], writer: &mut P) -> io::Result<()> {
     for byte in field {
         write_within(*byte, writer)?;
     }
@@ -46,18 +46,18 @@ fn write_doubled<W: WriteText>(field: &[u8], writer: &mut W) -> io::Result<()> {
 
 // Writes a field that is quoted.
 #[cfg(feature = "std")]
-fn write_quoted<W: WriteText>(field: &[u8], writer: &mut W) -> io::Result<()> {
-    writer.write_bytes(b"\"")?;
+fn write_quoted<P: PutBytes>(field: &[u8], writer: &mut P) -> io::Result<()> {
+    writer.put_bytes(b"\"")?;
     write_doubled(field, writer)?;
-    writer.write_bytes(b"\"")
+    writer.put_bytes(b"\"")
 }
 
 // Writes a field.
 #[cfg(feature = "std")]
-pub(crate) fn write_field<W: WriteText>(field: &[u8], writer: &mut W) -> io::Result<()> {
+pub(crate) fn write_field<P: PutBytes>(field: &[u8], writer: &mut P) -> io::Result<()> {
     if is_quoted(field) {
         write_quoted(field, writer)
     } else {
-        writer.write_bytes(field)
+        writer.put_bytes(field)
     }
 }

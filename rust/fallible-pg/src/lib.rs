@@ -25,12 +25,14 @@ mod columns;
 mod csv;
 mod errors;
 mod fault;
+mod holding;
 mod kind;
 mod message;
 mod messages;
 mod numbers;
 mod printing;
 mod progress;
+mod putting;
 mod reading;
 mod report;
 mod rows;
@@ -44,10 +46,15 @@ pub mod words;
 pub use cells::Cells;
 pub use columns::{Column, Columns};
 pub use fault::{Damage, PgFault};
+#[cfg(feature = "std")]
+pub use holding::HoldText;
+pub use holding::RowText;
 pub use kind::Kind;
 pub use message::Message;
 pub use messages::Messages;
 pub use printing::PgInput;
+#[cfg(feature = "std")]
+pub use putting::PutBytes;
 pub use reading::{Broken, ReadMessage};
 #[cfg(feature = "std")]
 pub use report::print_rows;
@@ -58,7 +65,6 @@ pub use sending::{
     request_data, request_of, startup_message, terminate_message,
 };
 pub use text::Format;
-pub use text::HoldText;
 #[cfg(feature = "std")]
 pub use text::write_row;
 

@@ -1,12 +1,14 @@
 //! Prints rows, and tells of notices.
 
 use crate::fault::{Damage, PgFault};
+#[cfg(feature = "std")]
+use crate::holding::HoldText;
 use crate::printing::PgInput;
 #[cfg(feature = "std")]
 use crate::printing::write_notice;
 use crate::reading::ReadMessage;
 use crate::rows::{Reply, Rows};
-use crate::text::{Format, HoldText};
+use crate::text::Format;
 use fallible_iterator::FallibleIterator;
 use program_io::fault::RunFault;
 #[cfg(feature = "std")]
@@ -62,7 +64,8 @@ fn put_reply<T: HoldText, W: WriteText, E: WriteText>(
 /// ```text
 /// requires { rows_parts rows.old
 ///     ≡ (((rows_parts rows.old).0.0, Some 0), (rows_parts rows.old).1, false) }
-/// ensures { ComesTo R.left R.stays R.no_room T.no_room
+/// ensures { ComesTo R.left R.stays R.no_room
+///     (λ message. LacksRoom T.written T.refuses (row_text (form_of format.entry) message))
 ///     (rows_parts rows.old).1 (form_of format.entry)
 ///     (rows_parts rows.old).0.0 (rows_parts rows.new).0.0 W.failed
 ///     (W.written output.old) (W.written output.new) output.new E.failed

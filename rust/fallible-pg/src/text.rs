@@ -2,8 +2,9 @@
 
 use crate::cells::Cells;
 use crate::csv;
+#[cfg(feature = "std")]
+use crate::putting::PutBytes;
 use crate::rows::Row;
-use alloc::vec::Vec;
 use fallible_iterator::FallibleIterator;
 #[cfg(feature = "std")]
 use program_io::writing::WriteText;
@@ -36,41 +37,41 @@ impl<'a> Format<'a> {
 
 // Writes what a cell has.
 #[cfg(feature = "std")]
-fn write_shown<W: WriteText>(format: Format<'_>, field: &[u8], writer: &mut W) -> io::Result<()> {
+fn write_shown<P: PutBytes>(format: Format<'_>, field: &[u8], writer: &mut P) -> io::Result<()> {
     if format.csv {
         csv::write_field(field, writer)
     } else {
-        writer.write_bytes(field)
+        writer.put_bytes(field)
     }
 }
 
 // Writes a cell.
 #[cfg(feature = "std")]
-fn write_cell<W: WriteText>(
+fn write_cell<P: PutBytes>(
     format: Format<'_>,
     cell: Option<&[u8]>,
-    writer: &mut W,
+    writer: &mut P,
 ) -> io::Result<()> {
     write_shown(format, format.shown(cell), writer)
 }
 
 // Writes a separator and a cell.
 #[cfg(feature = "std")]
-fn write_further_cell<W: WriteText>(
+fn write_further_cell<P: PutBytes>(
     format: Format<'_>,
     cell: Option<&[u8]>,
-    writer: &mut W,
+    writer: &mut P,
 ) -> io::Result<()> {
-    writer.write_bytes(&[format.separator()])?;
+    writer.put_bytes(&[format.separator()])?;
     write_cell(format, cell, writer)
 }
 
 // Writes the further cells, a separator before each, and a newline.
 #[cfg(feature = "std")]
-fn write_further<W: WriteText>(
+fn write_further<P: PutBytes>(
     format: Format<'_>,
     cells: &mut Cells<'_>,
-    writer: &mut W,
+    writer: &mut P,
 ) -> io::Result<()> {
     let count = cells.left();
     for _ in 0..count {
@@ -79,11 +80,29 @@ fn write_further<W: WriteText>(
                 Ok(()) => {}
                 Err(error) => return Err(error),
             },
-            Ok(None) => return writer.write_bytes(b"\n"),
-            Err(_) => return writer.write_bytes(b"\n"),
+            Ok(None) => return writer.put_bytes(b"\n"),
+            Err(_) => return writer.put_bytes(b"\n"),
         }
     }
-    writer.write_bytes(b"\n")
+    writer.put_bytes(b"\n")
+}
+
+// Puts the text of a row.
+#[cfg(feature = "std")]
+pub(crate) fn put_row<P: PutBytes>(
+    row: &Row,
+    format: Format<'_>,
+    writer: &mut P,
+) -> io::Result<()> {
+    let mut cells = row.cells();
+    match cells.next() {
+        Ok(Some(cell)) => match write_cell(format, cell, writer) {
+            Ok(()) => write_further(format, &mut cells, writer),
+            Err(error) => Err(error),
+        },
+        Ok(None) => Ok(()),
+        Err(_) => Ok(()),
+    }
 }
 
 /// Writes a row as `psql -A -t` does, or as `psql --csv -t` does: its cells with a separator between each two, and a newline. A row without cells is nothing.
@@ -100,54 +119,5 @@ fn write_further<W: WriteText>(
 /// </details>
 #[cfg(feature = "std")]
 pub fn write_row<W: WriteText>(row: &Row, format: Format<'_>, writer: &mut W) -> io::Result<()> {
-    let mut cells = row.cells();
-    match cells.next() {
-        Ok(Some(cell)) => match write_cell(format, cell, writer) {
-            Ok(()) => write_further(format, &mut cells, writer),
-            Err(error) => Err(error),
-        },
-        Ok(None) => Ok(()),
-        Err(_) => Ok(()),
-    }
-}
-
-/// A buffer for the text of a row.
-pub trait HoldText {
-    /// Puts the text of a row, as `write_row` writes it, in the place of what it holds. Whether there was room.
-    ///
-    /// <details><summary>Contract</summary>
-    ///
-    /// As it is proved, in [these words](crate::words):
-    ///
-    /// ```text
-    /// ensures text { result ≡ true
-    ///     → held self.new ≡ row_text (form_of format.entry) (message_bytes row.now.message) }
-    /// ensures no_room { result ≡ false → no_room (message_bytes row.now.message) }
-    /// ```
-    /// </details>
-    fn hold_row(&mut self, row: &Row, format: Format<'_>) -> bool;
-
-    /// The text that it holds.
-    ///
-    /// <details><summary>Contract</summary>
-    ///
-    /// As it is proved, in [these words](crate::words):
-    ///
-    /// ```text
-    /// ensures { result.now ≡ held self.now }
-    /// ```
-    /// </details>
-    fn held(&self) -> &[u8];
-}
-
-#[cfg(feature = "std")]
-impl HoldText for Vec<u8> {
-    fn hold_row(&mut self, row: &Row, format: Format<'_>) -> bool {
-        self.clear();
-        write_row(row, format, &mut program_io::memory::VecWriter(self)).is_ok()
-    }
-
-    fn held(&self) -> &[u8] {
-        self.as_slice()
-    }
+    put_row(row, format, writer)
 }

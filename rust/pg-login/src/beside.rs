@@ -2,7 +2,7 @@
 use fallible_iterator::FallibleIterator;
 use fallible_pg::{
     Bytes, Damage, Format, HoldText, Message, Messages, PgFault, PgInput, ReadByte, ReadFailed,
-    ReadMessage, Row, Rows, RunFault,
+    ReadMessage, Row, RowText, Rows, RunFault,
 };
 use std::cell::RefCell;
 use std::io::{self, Write};
@@ -148,15 +148,15 @@ impl<R: ReadMessage, W: Write> Beside<'_, R, W> {
         let Some(names) = names_of(description) else {
             return Err(self.damaged(Damage::Columns));
         };
-        let mut line = Vec::new();
+        let mut line = RowText::new();
         if !line.hold_row(&names, self.format) {
             return Err(self.stop(RunFault::Memory));
         }
-        if line.is_empty() {
+        match line.held() {
             // Of no columns psql prints an empty line.
-            line.push(b'\n');
+            [] => self.put(b"\n"),
+            text => self.put(text),
         }
-        self.put(&line)
     }
 }
 

@@ -37,7 +37,7 @@ module _ {A : Type 0} where
 
   -- ---- a count up to a most
 
-  collected_where_saturating_count_from : (b : ℕ) (l : List (Result A ElfFault)) (n : ℕ) → b ≤ 2 ^ 64 - 1 → folded (λ e. e) (λ n _. Ok (min (n + 1) (2 ^ 64 - 1))) b l ≡ Ok n → (xs : List A) × (collected l ≡ Ok xs) × (n ≡ min (b + length xs) (2 ^ 64 - 1))
+  pub collected_where_saturating_count_from : (b : ℕ) (l : List (Result A ElfFault)) (n : ℕ) → b ≤ 2 ^ 64 - 1 → folded (λ e. e) (λ n _. Ok (min (n + 1) (2 ^ 64 - 1))) b l ≡ Ok n → (xs : List A) × (collected l ≡ Ok xs) × (n ≡ min (b + length xs) (2 ^ 64 - 1))
   unfolding folded collected
   collected_where_saturating_count_from b [] n small e = let same : b ≡ n = cc in ([], refl, omega (arith, small, same))
   collected_where_saturating_count_from b (Ok x ∷ l) n small e =

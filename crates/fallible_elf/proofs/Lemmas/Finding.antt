@@ -19,7 +19,7 @@ use Rattle.fallible_elf.specs.Report.{HasSectionsOf, HasFound, found_of, named_s
 use Rattle.fallible_elf.specs.Sets.{ranges_of}
 use Rattle.fallible_elf.specs.declared.fault.ElfFault.{ElfFault}
 use Rattle.fallible_elf.specs.declared.finding.FindFault.{FindFault}
-use Rattle.fallible_elf.specs.declared.finding.FindFault.TheVariants.{File, NoRange}
+use Rattle.fallible_elf.specs.declared.finding.FindFault.TheVariants.{File, NoRange, NoRanges}
 use Rattle.fallible_elf.specs.declared.set.Range.{Range}
 use Rattle.fallible_elf.specs.declared.tables.Found.{Found}
 
@@ -79,6 +79,7 @@ module _ {W R : Type 0} (address : ℕ) (failed : W → Type 0) (written written
   pub finds_in_file : (bytes : List ℕ) → Consumes (left reader) (left reader') bytes → IsAtEnd (left reader') → HasHeader bytes → (r : Result (Unit {0}) (RunFault FindFault)) → FindsIn address failed written written' writer' bytes r → Finds address failed written written' writer' left fails reader reader' r
   finds_in_file bytes taken ends good (Ok done) p = (bytes, taken, ends, p)
   finds_in_file bytes taken ends good (Err (Input (NoRange given))) p = (p.0, (bytes, taken, ends, p.1), p.2)
+  finds_in_file bytes taken ends good (Err (Input NoRanges)) p = ((bytes, taken, ends, p.0), p.1)
   finds_in_file bytes taken ends good (Err (Input (File f))) p = (inl (bytes, taken, ends, (good, p.0)), p.1)
   finds_in_file bytes taken ends good (Err Read) p = absurd p
   finds_in_file bytes taken ends good (Err Memory) p = (inr (bytes, taken, ends, good), p)

@@ -1,5 +1,5 @@
 -- Lemmas on fields of CSV.
-use Rattle.std.proofs.Common.{◌≡◌, ℕ, ◌+◌, ◌<◌, ◌≤◌, Bool, true, false, ◌||◌, List, [], ◌∷◌, ◌++◌, length, take, drop, slice_index, refl, sym, ap, ◌∙◌, append_assoc, append-nil, drop_of_length-le}
+use Rattle.std.proofs.Common.{◌≡◌, ℕ, ◌+◌, ◌<◌, ◌≤◌, Bool, true, false, ◌||◌, List, [], ◌∷◌, ◌++◌, length, take, drop, slice_index, refl, sym, ap, ◌∙◌, append_assoc, append-nil, drop_of_length-le, take-append-drop}
 use Rattle.std.proofs.lemmas.List.{take_more, drop_more}
 use Rattle.fallible_pg.specs.Csv.{is_special, has_special, within_quotes, doubled}
 
@@ -40,3 +40,15 @@ doubled-none = refl
 -- one byte more
 pub doubled-more : (field : List ℕ) (i : ℕ) → i < length field → doubled (take (i + 1) field) ≡ doubled (take i field) ++ within_quotes (slice_index field i)
 doubled-more field i inside = ap doubled (take_more field i 0 inside) ∙ doubled-append (take i field) (slice_index field i ∷ []) ∙ ap (λ l. doubled (take i field) ++ l) (doubled-one (slice_index field i))
+
+doubled-cons : (b : ℕ) (bs : List ℕ) → doubled (b ∷ bs) ≡ within_quotes b ++ doubled bs
+unfolding doubled
+doubled-cons b bs = refl
+
+-- around one byte
+pub doubled-around : (field : List ℕ) (i : ℕ) → i < length field → doubled field ≡ doubled (take i field) ++ (within_quotes (slice_index field i) ++ doubled (drop (i + 1) field))
+doubled-around field i inside =
+    ap doubled (sym (take-append-drop i field))
+    ∙ doubled-append (take i field) (drop i field)
+    ∙ ap (λ l. doubled (take i field) ++ doubled l) (drop_more field i 0 inside)
+    ∙ ap (λ l. doubled (take i field) ++ l) (doubled-cons (slice_index field i) (drop (i + 1) field))

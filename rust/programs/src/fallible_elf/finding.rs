@@ -3,6 +3,7 @@
 use crate::fallible_elf::fault::ElfFault;
 use crate::fallible_elf::lines::write_range;
 use crate::fallible_elf::ranges::SetIn;
+use crate::fallible_elf::ranges::count_ranges;
 use crate::fallible_elf::reading::read_file;
 use crate::fallible_elf::sections::sections_of;
 use crate::fallible_elf::set::Range;
@@ -22,6 +23,8 @@ pub enum FindFault {
     File(ElfFault),
     /// No range of the file holds this address.
     NoRange(u64),
+    /// The file has no range.
+    NoRanges,
 }
 
 // Whether a range holds an address.
@@ -50,6 +53,19 @@ pub fn range_at(file: &[u8], address: u64) -> Result<Option<Range>, Fault<ElfFau
     }
 }
 
+// Whether a file has no range.
+fn has_no_ranges(file: &[u8]) -> bool {
+    match count_ranges(file) {
+        Ok(count) => {
+            if count > 0 {
+                return false;
+            }
+            true
+        }
+        Err(_) => false,
+    }
+}
+
 // Writes the line of the first range of a file that holds an address.
 fn find_in<W: WriteText>(
     address: u64,
@@ -61,13 +77,18 @@ fn find_in<W: WriteText>(
             Ok(()) => Ok(()),
             Err(error) => Err(RunFault::Write(error.into())),
         },
-        Ok(None) => Err(RunFault::Input(FindFault::NoRange(address))),
+        Ok(None) => {
+            if has_no_ranges(file) {
+                return Err(RunFault::Input(FindFault::NoRanges));
+            }
+            Err(RunFault::Input(FindFault::NoRange(address)))
+        }
         Err(Fault::Source(fault)) => Err(RunFault::Input(FindFault::File(fault))),
         Err(Fault::Memory(_)) => Err(RunFault::Memory),
     }
 }
 
-/// Reads a file up to the end of `reader`, and writes the line of its first range that holds an address, as it stands in the report. It fails with `Input` and the file's first fault, where it has one, or that no range holds the address; with `Read` where a read fails, with `Memory` if an allocation fails, and with `Write` where the writer fails. At all but `Write` nothing is written. It looks at the header first, as `report::run` does. An interrupted read is tried again.
+/// Reads a file up to the end of `reader`, and writes the line of its first range that holds an address, as it stands in the report. It fails with `Input` and the file's first fault, where it has one, that no range holds the address, or that it has none; with `Read` where a read fails, with `Memory` if an allocation fails, and with `Write` where the writer fails. At all but `Write` nothing is written. It looks at the header first, as `report::run` does. An interrupted read is tried again.
 pub fn find<R: ReadBytes, W: WriteText>(
     address: u64,
     reader: &mut R,
@@ -81,11 +102,12 @@ pub fn find<R: ReadBytes, W: WriteText>(
 }
 
 impl InputFault for FindFault {
-    /// That of the file's fault, and 7 where no range holds the address.
+    /// That of the file's fault, 7 where no range holds the address, and 8 where the file has no range.
     fn status(&self) -> u8 {
         match self {
             FindFault::File(fault) => fault.status(),
             FindFault::NoRange(_) => 7,
+            FindFault::NoRanges => 8,
         }
     }
 
@@ -94,6 +116,9 @@ impl InputFault for FindFault {
             FindFault::File(fault) => fault.write_line(errors),
             FindFault::NoRange(address) => {
                 errors.write_text(format_args!("no range holds 0x{:x}\n", *address))
+            }
+            FindFault::NoRanges => {
+                errors.write_bytes(b"no address ranges: no section .debug_aranges has one\n")
             }
         }
     }

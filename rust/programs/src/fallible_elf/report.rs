@@ -77,7 +77,9 @@ fn damage_text(damage: Damage) -> &'static str {
         Damage::NamesTooLong => "the sections' names are too long for the file",
         Damage::SetsOutOfRange => "the address ranges lie outside the file",
         Damage::SetsOverlap => "sections of address ranges overlap",
-        Damage::SetsCompressed => "the address ranges are compressed",
+        Damage::SetsCompressed => {
+            "the address ranges (.debug_aranges) are compressed: use objcopy --decompress-debug-sections"
+        }
         Damage::SetsRelocated => "the lengths of the address ranges are relocated",
         Damage::SetCut => "a set of ranges is cut short",
         Damage::SetForm => "a set's length has an unknown form",

@@ -8,7 +8,7 @@ use Rattle.fallible_pg.proofs.text.write_further.Given as goal
 abbrev pub invariant-loop : goal.invariant-loop
 invariant-loop g l = record {
   text : List ℕ;
-  wrote : Appends (g.W.WriteText.written l.fn.writer) (g.W.WriteText.written l.writer) text;
+  wrote : Appends (g.P.PutBytes.written l.fn.writer) (g.P.PutBytes.written l.writer) text;
   all : further_text (form_of l.fn.format) (shows_cells l.fn.cells) ≡ text ++ further_text (form_of l.fn.format) (shows_cells l.cells);
   fewer : l.cells.left ≤ l.count - l.counter;
 }

@@ -1,6 +1,6 @@
 //! Reads an ELF file of 64 bits, whose numbers begin with their least byte, from the file that its word names or from standard input, and prints its sections, and the sets of address ranges of its sections `.debug_aranges` with their ranges; or, after `--find`, the first range that holds an address. It reads no file of 32 bits, and none whose numbers begin with their greatest byte.
 //!
-//! Where that cannot be told, it says why on standard error, with the place of the byte where it was met, from 0, and ends with status 1 at a damaged file, 2 where a read fails, the file can't be opened, or a word is none that it takes, 3 where memory runs out, 4 where the tables cannot be printed, 5 where it is no such file, 6 where the address ranges are of a kind that isn't read, and 7 where no range holds the address. At a fault of the address ranges the sections are printed, where no address is looked for.
+//! Where that cannot be told, it says why on standard error, with the place of the byte where it was met, from 0, and ends with status 1 at a damaged file, 2 where a read fails, the file can't be opened, or a word is none that it takes, 3 where memory runs out, 4 where the tables cannot be printed, 5 where it is no such file, 6 where the address ranges are of a kind that isn't read, 7 where no range holds the address, and 8 where one is looked for and the file has none. At a fault of the address ranges the sections are printed, where no address is looked for.
 #![forbid(unsafe_code)]
 // The bodies stay as they are proved, where a proof may count by a loop's variable.
 #![allow(
@@ -28,7 +28,11 @@ Reads an ELF file of 64 bits, whose numbers begin with their least byte,
 and prints its sections and its address ranges; with --find the first range
 that holds ADDRESS, which is hexadecimal, with 0x or without.
 It reads one FILE at most, and standard input where FILE is - or none is given.
-A FILE whose name begins with - is given after --, or as ./-NAME.";
+A FILE whose name begins with - is given after --, or as ./-NAME.
+The status is 0 where all was printed, 1 at a damaged file, 2 where a read fails
+or a word is refused, 3 where memory is, 4 where a write fails, 5 at another
+file, 6 at ranges of a kind that isn't read, 7 where no range holds ADDRESS, and
+8 where one is looked for and the file has none.";
 
 fn main() -> ExitCode {
     started(HostRuntime)

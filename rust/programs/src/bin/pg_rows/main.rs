@@ -14,7 +14,7 @@
 mod program;
 mod words;
 
-use fallible_pg::{Messages, PgInput, Rows};
+use fallible_pg::{Messages, PgInput, RowText, Rows};
 use program::program;
 use program_io::arguments::{Given, input_asked, told, words_of};
 use program_io::ending::ended;
@@ -31,7 +31,10 @@ const USAGE: &str = "usage: pg_rows [--csv] [--null TEXT] [FILE]
 Reads what a PostgreSQL server sent in a session, and prints the rows as
 `psql -A -t` does; with --csv as `psql --csv -t`. A NULL is printed as TEXT.
 It reads one FILE at most, and standard input where FILE is - or none is given.
-A FILE whose name begins with - is given after --, or as ./-NAME.";
+A FILE whose name begins with - is given after --, or as ./-NAME.
+The status is 0 where all was printed, 1 where the server refused a statement,
+2 where a read fails or a word is refused, 3 where memory is, 4 where a write
+fails, 5 at damage, 6 where the bytes are cut, 7 at COPY and a function's call.";
 
 fn main() -> ExitCode {
     started(HostRuntime)
@@ -52,7 +55,7 @@ fn started(rt: HostRuntime) -> ExitCode {
     let ended = match BufReader::try_new(input) {
         Ok(reader) => {
             let mut rows = Rows::recorded(Messages::unbuffered(Buffered::new(reader)));
-            let mut text = Vec::new();
+            let mut text = RowText::new();
             program(
                 &mut rows,
                 format_of(&null, csv),

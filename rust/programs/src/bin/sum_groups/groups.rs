@@ -191,10 +191,6 @@ impl MakeReport for Global {
             Err(Fault::Source(bad)) => return Err(RunFault::Input(GroupsFault::Row(bad))),
             Err(Fault::Memory(_)) => return Err(fault_of(text)),
         };
-        match print_both(rows.as_slice()) {
-            Ok(report) => Ok(report),
-            // No memory: the rows don't fail, so printing fails only if an allocation does.
-            Err(_) => Err(RunFault::Memory),
-        }
+        print_both(rows.as_slice())
     }
 }

@@ -31,7 +31,10 @@ Reads rows `key,amount`, sorted by key, and prints a line for each group of rows
 with one key, and then for each three rows: the key, the number of rows, and the
 sum of their amounts.
 It reads one FILE at most, and standard input where FILE is - or none is given.
-A FILE whose name begins with - is given after --, or as ./-NAME.";
+A FILE whose name begins with - is given after --, or as ./-NAME.
+The status is 0 where all was printed, 1 at a line that is no row or not sorted,
+and at bytes that are no text, 2 where a read fails or a word is refused, 3
+where memory is, and 4 where a write fails.";
 
 fn main() -> ExitCode {
     started(HostRuntime)

@@ -8,7 +8,7 @@
 use fallible_iterator::FallibleIterator;
 use fallible_pg::{
     password_message, print_rows, query_message, request_of, startup_message, terminate_message,
-    Buffered, Damage, Format, Lent, Messages, PgFault, PgInput, ReadByte, Request, Rows, RunFault,
+    Buffered, Damage, Format, Lent, Messages, PgFault, PgInput, ReadByte, Request, RowText, Rows, RunFault,
     Unsent,
 };
 use program_io::ending::ended;
@@ -113,7 +113,7 @@ pub fn run(
         null: b"",
         csv: false,
     };
-    let printed = print_rows(&mut rows, format, &mut Vec::new(), output, errors);
+    let printed = print_rows(&mut rows, format, &mut RowText::new(), output, errors);
     // The server ends the session too where the connection is closed.
     let _ = send(writer, terminate_message());
     printed.map_err(Stopped::Run)

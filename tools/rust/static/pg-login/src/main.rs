@@ -377,7 +377,7 @@ fn print<R: ReadMessage>(
     let beside = Beside::new(messages, format, !wanted.rows_only, output.clone());
     let seen = beside.seen();
     let mut rows = Rows::new(Messages::unbuffered(beside));
-    let printed = print_rows(&mut rows, format, &mut Vec::new(), &mut output, errors);
+    let printed = print_rows(&mut rows, format, &mut RowText::new(), &mut output, errors);
     let mut seen = seen.borrow_mut();
     match (seen.stopped.take(), printed) {
         (Some(why), _) => Err(why),
