@@ -91,7 +91,7 @@
 //! | `chunked` | the items in batches of n, of which one before a failure and the last may have fewer |
 //! | `chunked_by` | the adjacent items with equal keys, as h makes them, each group with its key; before a failure of the list or of h comes the group that is held, so a failure parts groups |
 //! | `chunks_contract` | `Chunks`' contract. It requires no bound of the source: one draw leaves out fewer items than a batch has. |
-//! | `chunks_parts` | the source, beside the size the batch that is held, and the stop that is due |
+//! | `chunks_parts` | the source, beside the size the batch that is held, whether the last one was whole, and the stop that is due |
 //! | `coalesce_call`, `coalesce_takes` | a call on both; and where it may be made |
 //! | `coalesce_contract` | `Coalesce`'s contract |
 //! | `coalesce_parts` | the source, what is held beside the closure, and the stop that is due |
@@ -160,6 +160,7 @@
 //! | `err_into_parts` | the source, and nothing else |
 //! | `failures_listed` | the items of a list, in order, and its failures |
 //! | `failures_mapped` | h e in the place of each failure e |
+//! | `failures_mapped_from` | h n e in the place of each failure e, where n is its index, and n the first one's |
 //! | `find_flow` | an item that passes stops the fold, and where it goes on `keep` says what is kept |
 //! | `find_pick` | `find` returns the first item for which the predicate is true |
 //! | `find_position_pick` | `find_position` returns the first item for which the predicate is true, beside the number of items before it |
@@ -192,6 +193,9 @@
 //! | `HasItemsInOrderByTest` | The vector has the items, and none is less than one before it by the test lt. Nothing is said of which comes first of two of which neither is less. |
 //! | `HasSecondCloned` | a pair of the first of p itself and a clone of the second |
 //! | `held_hint` | Of the source's hint, where n are held: at least one if the source has one for certain or one is held, and at most what the source has and these, where that fits. |
+//! | `held_one` | an answer that is held, or none |
+//! | `hint_unless_end` | Where an end is due, no item comes before it. Otherwise this is the hint, also where a failure is due, after which more may come. |
+//! | `HintBy` | A hint as a plan: at once, or by what the source's hint is. |
 //! | `HoldsAtEachTurn` | P holds of each item that may come after items on which the turns went on, with what they made by then |
 //! | `IfItem` | where the answer is an item, P holds of it |
 //! | `in_order` | whether no item is less than the one before it; or the failure that comes before such an item |
@@ -201,10 +205,12 @@
 //! | `inclusive_contract` | `TakeWhileInclusive`'s contract: the predicate may be called on each item that may come. |
 //! | `inclusive_parts` | the source, the predicate, and whether ends are due |
 //! | `inclusive_plan` | Nothing is held. The predicate is called on each item. |
+//! | `index_call` | one call on an index and the failure beside it |
 //! | `index_contract` | the contract: it is known how many are left, and which |
+//! | `index_takes` | the closure may be called on the index and the failure |
 //! | `inspect_err_contract` | `InspectErr`'s contract: the closure may be called on a reference to each failure that may come; all else is the source's. |
 //! | `inspect_err_parts` | the source and the closure |
-//! | `interleave_contract` | `Interleave`'s contract: both sides, fused, are drawn in turn; their bounds are added up, and so is what remains. |
+//! | `interleave_contract` | `Interleave`'s contract: both sides are drawn in turn; their bounds are added up, and so is what remains. |
 //! | `interleave_left` | the left side |
 //! | `interleave_left_ended` | whether the left's end was met |
 //! | `interleave_parts` | both sides, fused, and whether it is the right's turn |
@@ -300,7 +306,7 @@
 //! | `OverList` | Over a source that lists l, P l. |
 //! | `OverListWith` | Over a source that lists l, and with a function h as which a closure acts, P h l. |
 //! | `pad_using_closure` | the closure |
-//! | `pad_using_contract` | `PadUsing`'s contract: the source, fused, beside the indices below n; its hint has the greater bounds of both. |
+//! | `pad_using_contract` | `PadUsing`'s contract: the source beside the indices below n; its hint has the greater bounds of both. |
 //! | `pad_using_ended` | whether the source's end was met |
 //! | `pad_using_indices` | the index of the next item, and n |
 //! | `pad_using_parts` | the source, fused; the index of the next item, and n; and the closure |
@@ -349,6 +355,7 @@
 //! | `right_ended` | whether the right's end was met |
 //! | `right_of` | the item of the right, if there is one |
 //! | `right_source` | the right side |
+//! | `rule_meets` | what is emitted at an answer of the source |
 //! | `same_call`, `same_takes` | a call on references to both; and where it may be made |
 //! | `SearchDrains` | The draws from s returned items and a last answer, and left t, by which the search with f returns r and leaves it as g. |
 //! | `searched` | What a search returns that calls h on the items in order, the first of which has n items before it: what `pick` makes of the first result of which it makes something, or a failure of the list or of h that comes before; `none` if there is neither. |
@@ -357,7 +364,6 @@
 //! | `SmallestRefuses` | One more item takes an allocation: the vector has fewer than k items, and no more room. |
 //! | `SortedInPlace` | What becomes of the vector that `collect` returned: one that `sorts` says has its items, in order. It never fails. A failure stays. |
 //! | `SortedThen` | What becomes of the vector that `collect` returned: one that `sorts` says is sorted of its items; or an allocation failure, where it has more than twenty. A failure stays. |
-//! | `stage_meets` | `on_item p x emitted q`: the adapter holds p and is called on the item x; this is emitted, and it holds q then. `on_stop` is the same for a stop. Of both, what is emitted at an answer of the source. |
 //! | `stage_step` | One answer: what is due, without a draw, or what is emitted at draws. |
 //! | `Stays` | What `KeptByDraws` says, after any number of draws from one end; and what can never fail can't fail afterwards. |
 //! | `stop_after_contract` | `StopAfter`'s contract. Its number bounds the items, so that and how many failures are still to come bound both together. |
@@ -415,6 +421,8 @@
 //! | `while_answer` | what `fold_while` returns: `Ok` of a value goes on with it, `Err` stops |
 //! | `WhileCall` | one call on the value so far and an item |
 //! | `windowed` | each two adjacent items; a failure stands in its place, and parts nothing |
+//! | `with_index_contract` | `MapErrWithIndex`'s contract: the closure may be called on each failure that may come, with any index; all else is the source's, its hints too. |
+//! | `with_index_parts` | the source and the index of what comes next, and the closure |
 //! | `with_item` | What is kept after one more item: it takes the place of the least where it is less, and of the greatest where it is greater or equal. |
 //! | `with_position_contract` | `WithPosition`'s contract. It requires no bound of the source: one draw leaves out one item at most. |
 //! | `with_position_parts` | the source, the item that is held with whether one came before it, and the stop that is due |

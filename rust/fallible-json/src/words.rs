@@ -47,17 +47,22 @@
 //!
 //! | Word | Sentence |
 //! |---|---|
+//! | `begin` | the state before the first token: a value is wanted |
 //! | `BeginWithLeft` | Bytes begin with those that were left. |
+//! | `checked` | The tokens from a state on that may stand where they stand, without the separators, up to the first fault: of their source, of a token that may not stand there, or of the end. |
 //! | `ComesFrom` | The bytes are those that are wanted, or the fault is that; want of memory says nothing. |
 //! | `ComesTo` | What an outcome says of the input, and of what was written. `Ok`: all of it was read, it has no fault, and its texts were written, each on a line, and nothing else. `Input`: its first fault is this, of the text with this number; what is printed before it was written. `Read`: a read failed, or too many bytes came; what is printed of those before was written. `Memory`: a read failed for want of memory, or the maker had none; what was written is some of that. `Write`: writing failed. |
 //! | `Fails` | Reading failed so: bytes were read, and then a read failed with this kind, which is no interruption; or it was interrupted as often as it was tried, which comes to `TimedOut`. |
 //! | `FindsFault` | The bytes have this fault, whatever comes after them, and these texts ended before it. |
 //! | `FindsLastFault` | These are the last bytes, and they have this fault. |
 //! | `Fits` | So many further bytes have room in its numbers. |
+//! | `IsMemory` | an allocation failure is this failure |
+//! | `IsSeen` | the token has these |
 //! | `items` | each an item |
 //! | `lexed` | The tokens of placed bytes, each with its places. |
 //! | `Lexeme` | a token, after the places of its first byte and of its last |
 //! | `Lists` | The answers of s, up to its first end, list l. |
+//! | `ListsMade` | The answers of s, up to its first end, list l, with values made of its items; up to an allocation failure and what was buffered before it. |
 //! | `MakesJson` | The text without blanks was made, or the bytes have this fault, or there was no memory for it. |
 //! | `minified_or_wanted` | The bytes of the tokens of a text, where these are one JSON text; or the first fault, and what could come there. |
 //! | `numbered` | each item beside its number, from n on; failures have none |
@@ -68,4 +73,5 @@
 //! | `taken` | What a step makes of the containers that are open. A container ends where it is the innermost. A comma stands in a container. |
 //! | `Takes` | So many bytes were taken: whatever comes after the bytes, and however that ends, these texts ended, and what is begun goes on with the others; of these alone no more could be taken, and no blank is left. |
 //! | `TakesAll` | These are the last bytes, and all that is left of the texts ended. |
+//! | `texted` | the tokens of placed bytes, each with its places and its text |
 //! | `Tokens` | the tokens of bytes, and the faults of those that break off |

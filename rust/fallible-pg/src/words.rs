@@ -59,6 +59,7 @@
 //! | `form_of` | the form that a format asks for |
 //! | `found` | the first item x for which h x is true, if there is one |
 //! | `items` | each an item |
+//! | `LacksRoom` | Of a text that was put where nothing was held some bytes were refused. |
 //! | `message_bytes` | all bytes of a message: its tag, its length and its body |
 //! | `messages_parts` | the parts of the messages of a reader: the reader, and how many bytes were read, until no message can be found |
 //! | `place_of` | how many bytes were read; 0 once no message can be found |
@@ -75,3 +76,4 @@
 //! | `sent_query` | a query |
 //! | `sent_startup` | what asks for a session; it has no tag |
 //! | `shows_cells` | the cells that are left |
+//! | `StopsWithin` | The front of a text was put, and the bytes after it were refused. |
