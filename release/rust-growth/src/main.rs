@@ -99,6 +99,10 @@ impl Measured {
         let mut above = Vec::new();
         for figure in 0..FIGURES {
             for (step, which) in [(1, 0), (2, 0), (1, 1), (2, 1)] {
+                // by where a long text lies `malloc` copies it once more, or not, which doubles what few items cost
+                if figure == INSTRUCTIONS && step == 1 {
+                    continue;
+                }
                 let from = [N, K][which];
                 let to = from << step;
                 let grown = self.grown(figure, step)[which];
