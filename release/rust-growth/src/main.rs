@@ -20,8 +20,9 @@ use rows::{Growth, Held, Row};
 const N: u64 = 1024;
 const K: u64 = 16;
 
-/// The figures that grow by more than their class, and are known to: the call, the shape, and the figure.
-const KNOWN: &[(&str, Shape, usize)] = &[];
+/// The figures that grow by more than their class, and are known to: the call, the shape, and the figure. By where a long text
+/// lies, the allocator copies it where it grows, or not.
+const KNOWN: &[(&str, Shape, usize)] = &[("join", Shape::Long, INSTRUCTIONS)];
 
 /// What a figure may grow by besides.
 const SLACK: f64 = 1.15;
@@ -99,10 +100,6 @@ impl Measured {
         let mut above = Vec::new();
         for figure in 0..FIGURES {
             for (step, which) in [(1, 0), (2, 0), (1, 1), (2, 1)] {
-                // by where a long text lies `malloc` copies it once more, or not, which doubles what few items cost
-                if figure == INSTRUCTIONS && step == 1 {
-                    continue;
-                }
                 let from = [N, K][which];
                 let to = from << step;
                 let grown = self.grown(figure, step)[which];
