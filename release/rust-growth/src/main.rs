@@ -20,9 +20,11 @@ use rows::{Growth, Held, Row};
 const N: u64 = 1024;
 const K: u64 = 16;
 
-/// The figures that grow by more than their class, and are known to: the call, the shape, and the figure. By where a long text
-/// lies, the allocator copies it where it grows, or not.
-const KNOWN: &[(&str, Shape, usize)] = &[("join", Shape::Long, INSTRUCTIONS)];
+/// The figures that grow by more than their class, and are known to: the call, the shape, and the figure.
+const KNOWN: &[(&str, Shape, usize)] = &[];
+
+/// The figures that do so in some runs: by where a long text lies, the allocator copies it where it grows, or not.
+const VARYING: &[(&str, Shape, usize)] = &[("join", Shape::Long, INSTRUCTIONS)];
 
 /// What a figure may grow by besides.
 const SLACK: f64 = 1.15;
@@ -246,7 +248,8 @@ fn told_of(row: &Row, it: &Measured) -> bool {
     let above = it.above(row);
     let mut failed = false;
     for (figure, line) in &above {
-        let known = known(row, it.shape).any(|known| known == *figure);
+        let known = known(row, it.shape).any(|known| known == *figure)
+            || VARYING.contains(&(row.call, it.shape, *figure));
         eprintln!("{}{line}", if known { "known: " } else { "" });
         failed |= !known;
     }
