@@ -2,7 +2,7 @@
 ghost use Rattle.std.specs.Prelude.{◌≡◌, if◌then◌else◌, Some, None, Ok, Err};
 ghost use Rattle.fallible_iterator.specs.Folds.{CallableDriving, Driven, TurnThrough, beside, beside_names};
 ghost use Rattle.fallible_iterator.specs.Passing.{IfItem};
-ghost use Rattle.fallible_itertools_adapters.specs.Staging.{before_stop, held_hint, DrawsUpTo, DueTakes, DueTold, IsStage, EmittedTakes, EmittedTold, Met, MetTakes, PassesNoneOver, Rule, StageTurns, TakesAll, Told, due_comes, due_left, emitted_then, one_emitted, rule_meets, stage_step, stop_answer, HintBy, calls, held_one, hint_unless_end};
+ghost use Rattle.fallible_itertools_adapters.specs.Staging.{before_stop, held_hint, DrawsUpTo, DueTakes, DueTold, IsStage, EmittedTakes, EmittedTold, Met, MetTakes, PassesNoneOver, Rule, StageTurns, TakesAll, Told, due_gives, emitted_then, one_emitted, rule_meets, stage_step, stop_answer, HintBy, calls, held_one, hint_unless_end};
 ghost use Rattle.std.specs.declared.ops.ControlFlow.TheVariants.{Break};
 
 use fallible_iterator::extending::Beside;
@@ -106,7 +106,7 @@ pub trait Stage<P, X, E> {
 
     /// The answer that was due, and what is due after it.
     fn answer_due(&self, due: Self::Due) -> AnswerAndDue<Self::Kept, Self::Due, E>
-        ensures { result ≡ (due_comes (rule.comes due), due_left due (rule.comes due)) };
+        ensures { result ≡ due_gives due (rule.comes due) };
 
     // So many answers are emitted and held; at a stop a stop is.
     ghost is_stage: { IsStage rule.comes (rule_meets rule) rule.most rule.held };

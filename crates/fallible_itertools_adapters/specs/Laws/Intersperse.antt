@@ -7,7 +7,7 @@ use Rattle.fallible_iterator.specs.Sources.FromFn.{call_of_none}
 use Rattle.fallible_iterator.specs.Sound.{HintsHold, as_made}
 use Rattle.fallible_itertools_adapters.specs.Intersperse.{intersperse_contract, intersperse_hint_plan, intersperse_plan, intersperse_rule, intersperse_with_rule, separated_by, separator_cloned, fitting, interspersed_high, interspersed_items, unparted, intersperse_hint, intersperse_with_contract, takes_none}
 use Rattle.fallible_itertools_adapters.specs.Laws.Staging.{Always, DueFew, EmittedFew, ItemWeighs, PlanMakes, closure_stays, is_stage_plan, lawful_rule, makes_at_most_plan, makes_no_fewer_plan, passes_at_most, passes_weighs, plan_hold, plan_hint}
-use Rattle.fallible_itertools_adapters.specs.Staging.{none_held, passes, plan_meets, IsStage, item_comes, due_total, emitted_total, items_of, stage_step}
+use Rattle.fallible_itertools_adapters.specs.Staging.{none_held, passes, plan_meets, IsStage, item_comes, due_total, emitted_total, stage_step}
 use Rattle.std.specs.declared.alloc.AllocError.{AllocError}
 
 module _ {A : Type 0} (E : Type 0) where
@@ -45,11 +45,11 @@ module _ (A E : Type 0) where
   separated_few x (Ok s) low = λ n after. omega (arith, after)
   separated_few x (Err e) low = tt
 
-  separated_at_most : (x : A) (v : Result A E) (n : ℕ) → emitted_total item_comes items_of (separated_by x v).0 + (n + (n - 0)) ≤ suc n + (suc n - 0)
+  separated_at_most : (x : A) (v : Result A E) (n : ℕ) → emitted_total item_comes 0 (separated_by x v).0 + (n + (n - 0)) ≤ suc n + (suc n - 0)
   separated_at_most x (Ok s) n = omega arith
   separated_at_most x (Err e) n = omega arith
 
-  intersperse_at_most : (came : Bool) (x : A) (n : ℕ) → Always (λ t. emitted_total {E = E} item_comes items_of t.0 + all_parted t.1 n ≤ all_parted came (suc n)) (intersperse_plan came x)
+  intersperse_at_most : (came : Bool) (x : A) (n : ℕ) → Always (λ t. emitted_total {E = E} item_comes 0 t.0 + all_parted t.1 n ≤ all_parted came (suc n)) (intersperse_plan came x)
   intersperse_at_most false x n = omega arith
   intersperse_at_most true x n = λ v. separated_at_most x v n
 
@@ -67,11 +67,11 @@ module _ (A E : Type 0) where
       no_fewer_at_failure = λ came e low. tt;
     }
 
-    due_total_above : (came : Bool) (due : Option A) (j : ℕ) → due_total {E = E} item_comes items_of due + all_parted came j ≤ interspersed_items came due j
+    due_total_above : (came : Bool) (due : Option A) (j : ℕ) → due_total {E = E} item_comes 0 due + all_parted came j ≤ interspersed_items came due j
     due_total_above came None j = omega arith
     due_total_above came (Some x) j = omega arith
 
-    interspersed_high_above : (came : Bool) (due : Option A) (o : Option ℕ) (j : ℕ) → IfSome o (λ n. j ≤ n) → IfSome (interspersed_high came due o) (λ n. due_total {E = E} item_comes items_of due + all_parted came j ≤ n)
+    interspersed_high_above : (came : Bool) (due : Option A) (o : Option ℕ) (j : ℕ) → IfSome o (λ n. j ≤ n) → IfSome (interspersed_high came due o) (λ n. due_total {E = E} item_comes 0 due + all_parted came j ≤ n)
     interspersed_high_above came due None j h = tt
     interspersed_high_above came due (Some n) j h = fitting_above (interspersed_items came due n) _ (let more = interspersed_items_grow came due j n h in let le = due_total_above came due j in omega (arith, le, more))
 
