@@ -2,7 +2,7 @@
 ghost use Rattle.std.specs.Prelude.{◌≡◌, if◌then◌else◌, Some, None, Ok, Err};
 ghost use Rattle.fallible_iterator.specs.Folds.{CallableDriving, Driven, TurnThrough, beside, beside_names};
 ghost use Rattle.fallible_iterator.specs.Passing.{IfItem};
-ghost use Rattle.fallible_itertools_adapters.specs.Staging.{before_stop, held_hint, DrawsUpTo, DueTakes, DueTold, IsStage, EmittedTakes, EmittedTold, Met, MetTakes, PassesNoneOver, Rule, StageTurns, TakesAll, Told, due_gives, emitted_then, one_emitted, rule_meets, stage_step, stop_answer, HintBy, calls, held_one, hint_unless_end};
+ghost use Rattle.fallible_itertools_adapters.specs.Staging.{before_stop, held_hint, DrawsUpTo, DueTakes, DueTold, IsStage, EmittedTakes, EmittedTold, Met, MetTakes, PassesNoneOver, Rule, StageTurns, TakesAll, Told, due_gives, rule_meets, stage_step, stop_answer, held_one, hint_unless_end};
 ghost use Rattle.std.specs.declared.ops.ControlFlow.TheVariants.{Break};
 
 use fallible_iterator::extending::Beside;
@@ -22,7 +22,7 @@ pub type Emitted<B, D, E> = Option<AnswerAndDue<B, D, E>>;
 /// One answer.
 #[inline(always)]
 pub fn one<B, D, E>(answer: Result<Option<B>, E>) -> Emitted<B, D, E>
-    ensures { result ≡ one_emitted answer }
+    ensures { result ≡ Some (answer, None) }
 {
     Some((answer, None))
 }
@@ -30,7 +30,7 @@ pub fn one<B, D, E>(answer: Result<Option<B>, E>) -> Emitted<B, D, E>
 /// One answer, after which `due` is due.
 #[inline(always)]
 pub fn one_then<B, D, E>(answer: Result<Option<B>, E>, due: D) -> Emitted<B, D, E>
-    ensures { result ≡ emitted_then answer due }
+    ensures { result ≡ Some (answer, Some due) }
 {
     Some((answer, Some(due)))
 }
@@ -75,8 +75,7 @@ pub fn hint_with_held<I: FallibleIterator, H>(
     due: &Option<Stop<I::Error>>,
     held: &Option<H>,
 ) -> (usize, Option<usize>)
-    ensures { HintBy I.contract it.now
-        (hint_unless_end (calls tt (held_hint (held_one held.now))) due.now) result }
+    ensures { hint_unless_end (held_hint (held_one held.now)) due.now (I.contract.hints it.now) result }
 {
     match *due {
         Some(None) => (0, Some(0)),

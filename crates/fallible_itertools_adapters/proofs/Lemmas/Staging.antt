@@ -20,7 +20,7 @@ use Rattle.fallible_iterator.proofs.Lemmas.Folding.{drained_by_same_steps, holds
 use Rattle.fallible_iterator.proofs.Lemmas.Folds.{holds_at_first_turn, holds_each_turn_after_item, driven_by_item_first, driven_end, driven_failure, driven_of_first_break, fold_of_references_drives_values, names_kept}
 use Rattle.fallible_iterator.proofs.Lemmas.UntilRefused.{always_of_until_refused}
 use Rattle.fallible_itertools_adapters.specs.Adjacent.{AdjacentItems}
-use Rattle.fallible_itertools_adapters.specs.Staging.{DrawsUpTo, Emitted, yields, passes_over, due_gives, stage_meets, stage_step, stop_answer, MayMeet, TakesAll, IsStage, IsStop, EndsInStop, Told, DueTold, EmittedTold, DueTakes, EmittedTakes, Met, MetTakes, StageTurns, before_rest, due_first, emitted_first, staged, Follows, Transition, Plan, calls, makes, plan_meets, followed, plan_does, ends_come, before_stop, IsTransition, as_function, stop_comes, CanFollow, plan_can, plan_item, plan_takes, held_one, HintsPastFailure, hint_unless_end, HintBy, HintPlan}
+use Rattle.fallible_itertools_adapters.specs.Staging.{DrawsUpTo, Emitted, yields, passes_over, due_gives, stage_meets, stage_step, stop_answer, MayMeet, TakesAll, IsStage, IsStop, EndsInStop, Told, DueTold, EmittedTold, DueTakes, EmittedTakes, Met, MetTakes, StageTurns, before_rest, due_first, emitted_first, staged, Follows, Transition, Plan, calls, makes, plan_meets, followed, plan_does, ends_come, before_stop, IsTransition, as_function, stop_comes, CanFollow, plan_can, plan_item, plan_takes, held_one, HintsPastFailure, hint_unless_end}
 use Rattle.fallible_itertools_adapters.specs.Laws.Staging.{may_meet_of_answer, may_meet_before_draws, kept_where_reached, Always, ItemBuffers, NoEnd, always_weaken, failure_buffers, plan_hint}
 use Rattle.fallible_itertools_adapters.proofs.Lemmas.Adjacent.{EachNext, HoldsOfNext, adjacent_items_of_each_next}
 
@@ -721,6 +721,6 @@ module _ {Q R H X B E : Type 0} (g : Q → R) (plan : H → X → Plan Q R (Tran
 -- ---- the hint where a failure is due
 
 -- Law: Where a failure is due, each hint of an adapter that buffers, whose hint is by `hint_unless_end`, is one of what comes after it.
-pub hints_past_failure : {S H F X B E : Type 0} (m : Contract S X E) (meets : H × F → Answered X E → Emitted B (Option E) E → H × F → Type 0) (hint : H → HintPlan) (s : S × ((H × F) × Option (Option E))) (e : E) → s.1.1 ≡ Some (Some e) → HintsPastFailure (stage_step stop_comes meets m.steps) (plan_hint m (λ h due. hint_unless_end (hint h) due)) s e
+pub hints_past_failure : {S H F X B E : Type 0} (m : Contract S X E) (meets : H × F → Answered X E → Emitted B (Option E) E → H × F → Type 0) (hint : H → ℕ × Option ℕ → ℕ × Option ℕ) (s : S × ((H × F) × Option (Option E))) (e : E) → s.1.1 ≡ Some (Some e) → HintsPastFailure (stage_step stop_comes meets m.steps) (plan_hint m (λ h due hints k. hint_unless_end (hint h) due hints k)) s e
 hints_past_failure {S = S} {H = H} {F = F} {E = E} m meets hint (s, (p, due)) e is t h step made = let w : stage_step stop_comes meets m.steps (s, (p, Some (Some e))) (Err e) t = subst (λ (d : Option (Option E)). stage_step stop_comes meets m.steps (s, (p, d)) (Err e) t) is step in
-    subst (λ (q : S × ((H × F) × Option (Option E))). HintBy m q.0 (hint_unless_end (hint q.1.0.0) q.1.1) h) (sym (ap (λ (z : S). (z, t.1)) w.1 ∙ ap (λ (z : (H × F) × Option (Option E)). (s, z)) w.2)) (subst (λ (d : Option (Option E)). HintBy m s (hint_unless_end (hint p.0) d) h) is made)
+    subst (λ (q : S × ((H × F) × Option (Option E))). hint_unless_end (hint q.1.0.0) q.1.1 (m.hints q.0) h) (sym (ap (λ (z : S). (z, t.1)) w.1 ∙ ap (λ (z : (H × F) × Option (Option E)). (s, z)) w.2)) (subst (λ (d : Option (Option E)). hint_unless_end (hint p.0) d (m.hints s) h) is made)

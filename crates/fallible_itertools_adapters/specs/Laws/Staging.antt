@@ -15,7 +15,7 @@ use Rattle.fallible_iterator.specs.Laws.Contract.{kept_by_draws_of_one_draw, kep
 use Rattle.fallible_iterator.specs.Laws.Hints.Drawn.{brackets_any_lower_where_no_end, brackets_zero_where_no_item, if_some_at_least_of_smaller}
 use Rattle.fallible_iterator.specs.Laws.Hints.Joining.{if_some_fitting_sum_at_least_both}
 use Rattle.fallible_iterator.specs.Laws.LawForm.{IsTraced}
-use Rattle.fallible_itertools_adapters.specs.Staging.{DrawsUpTo, Emits, Emitted, StagedTrace, due_gives, emits_due, emits_later, emits_first, emits_nothing, passes_over, stage_step, yields, weight, due_total, emitted_total, IsStage, IsDue, IsEmitted, MayMeet, MayCome, EndsInStop, IsStop, stop_comes, before_stop, held_one, Follows, HintPlan, IsTransition, Transition, Plan, bounded, calls, makes, passes, Rule, rule_contract, rule_meets, plan_meets, plan_takes, HintBy, hint_unless_end, held_hint, stop_answer}
+use Rattle.fallible_itertools_adapters.specs.Staging.{DrawsUpTo, Emits, Emitted, StagedTrace, due_gives, emits_due, emits_later, emits_first, emits_nothing, passes_over, stage_step, yields, weight, due_total, emitted_total, IsStage, IsDue, IsEmitted, MayMeet, MayCome, EndsInStop, IsStop, stop_comes, before_stop, held_one, Follows, IsTransition, Transition, Plan, bounded, calls, makes, passes, Rule, rule_contract, rule_meets, plan_meets, plan_takes, hint_unless_end, held_hint, stop_answer}
 
 -- ---- The runs of a stage are its traces: one law of all stages, over what the source's law says
 
@@ -98,7 +98,7 @@ module _ {L B E : Type 0} (comes : L → Option (Answered B E)) where
 
 -- The hint of a stage is sound where its rule says so.
 abbrev pub HintHolds : {S P X B L E : Type 0} → Contract S X E → Rule P X B L E → Type 0
-HintHolds {S = S} m rule = HintsHold (λ p r q. stage_step rule.comes (rule_meets rule) m.steps p r q) (λ p h. HintBy m p.0 (rule.hint p.1.0 p.1.1) h) (rule.sound S m)
+HintHolds {S = S} m rule = HintsHold (λ p r q. stage_step rule.comes (rule_meets rule) m.steps p r q) (λ p h. rule.hint p.1.0 p.1.1 (m.hints p.0) h) (rule.sound S m)
 
 -- What may be called stays so, on fewer answers, in each state that these bring it to.
 abbrev pub CanStays : {P X B L E : Type 0} → Rule P X B L E → Type 1
@@ -455,8 +455,8 @@ pub closure_stays : {H F Q R T V X E : Type 0} (takes : F → Q → Type 0) (pla
 closure_stays takes plan P K p q weak reached c = is_callable_after {pre = λ r a. IfItem (plan_takes takes plan r) a} weak reached c
 
 -- the hint by a plan, by what is held and what is due
-abbrev pub plan_hint : {S H F L X E : Type 0} → Contract S X E → (H → Option L → HintPlan) → S × ((H × F) × Option L) → ℕ × Option ℕ → Type 0
-plan_hint m hint p h = HintBy m p.0 (hint p.1.0.0 p.1.1) h
+abbrev pub plan_hint : {S H F L X E : Type 0} → Contract S X E → (H → Option L → (ℕ × Option ℕ → Type 0) → ℕ × Option ℕ → Type 0) → S × ((H × F) × Option L) → ℕ × Option ℕ → Type 0
+plan_hint m hint p h = hint p.1.0.0 p.1.1 (m.hints p.0) h
 
 -- a hint is sound once a stop is due, and before wherever the hint of the source is that it is made of
 abbrev pub held_sound : {S H F X E : Type 0} → Contract S X E → (H → ℕ × Option ℕ → ℕ × Option ℕ) → SoundWhere (S × ((H × F) × Option (Option E)))
@@ -514,7 +514,7 @@ due_or_none None = inr (λ n. cc)
 due_or_none (Some later) = inl refl
 
 -- Where `done` holds of what is due, that is a stop; where it doesn't, the hint is `made` of the source's. Where an end is due it is none.
-module _ {H F Q R X B L E : Type 0} (comes : L → Option (Answered B E)) (call : F → Q → R → F → Type 0) (plan : H → X → Plan Q R (Transition H B L E)) (stops : H → Option E → Transition H B L E) (most : H → ℕ → ℕ) (Few : H → ℕ → ℕ → Type 0) (at_most : MakesAtMost comes (plan_meets call plan stops) (λ p n. most p.0 n)) (no_fewer : MakesNoFewer comes (plan_meets call plan stops) (λ p low n. Few p.0 low n)) (hint : H → Option L → HintPlan) (low : H → Option L → ℕ → ℕ) (high : H → Option L → Option ℕ → Option ℕ) (done : Option L → Type 0) (done_or_open : (due : Option L) → done due ⊎ (done due → ⊥)) (stop_where_done : (due : Option L) → done due → StopIsDue comes due) (none_at_end : (h : H) (later : L) → (due_gives later (comes later)).0 ≡ end → hint h (Some later) ≡ makes (0, Some 0)) (above : (h : H) (due : Option L) → (done due → ⊥) → (o : Option ℕ) (n : ℕ) → IfSome o (λ j. n ≤ j) → IfSome (high h due o) (λ j. due_total comes 0 due + most h n ≤ j)) (below : (h : H) (due : Option L) → (done due → ⊥) → (n : ℕ) → DueFew comes due (λ k. Few h n k) (λ k. low h due n ≤ k)) where
+module _ {H F Q R X B L E : Type 0} (comes : L → Option (Answered B E)) (call : F → Q → R → F → Type 0) (plan : H → X → Plan Q R (Transition H B L E)) (stops : H → Option E → Transition H B L E) (most : H → ℕ → ℕ) (Few : H → ℕ → ℕ → Type 0) (at_most : MakesAtMost comes (plan_meets call plan stops) (λ p n. most p.0 n)) (no_fewer : MakesNoFewer comes (plan_meets call plan stops) (λ p low n. Few p.0 low n)) (hint : H → Option L → (ℕ × Option ℕ → Type 0) → ℕ × Option ℕ → Type 0) (low : H → Option L → ℕ → ℕ) (high : H → Option L → Option ℕ → Option ℕ) (done : Option L → Type 0) (done_or_open : (due : Option L) → done due ⊎ (done due → ⊥)) (stop_where_done : (due : Option L) → done due → StopIsDue comes due) (none_at_end : (h : H) (later : L) → (due_gives later (comes later)).0 ≡ end → (hints : ℕ × Option ℕ → Type 0) (k : ℕ × Option ℕ) → hint h (Some later) hints k → k ≡ (0, Some 0)) (above : (h : H) (due : Option L) → (done due → ⊥) → (o : Option ℕ) (n : ℕ) → IfSome o (λ j. n ≤ j) → IfSome (high h due o) (λ j. due_total comes 0 due + most h n ≤ j)) (below : (h : H) (due : Option L) → (done due → ⊥) → (n : ℕ) → DueFew comes due (λ k. Few h n k) (λ k. low h due n ≤ k)) where
   module _ {S : Type 0} (m : Contract S X E) (holds : HintsHold m.steps m.hints m.sound) where
     abbrev PlanState : Type 0
     PlanState = S × ((H × F) × Option L)
@@ -526,9 +526,9 @@ module _ {H F Q R X B L E : Type 0} (comes : L → Option (Answered B E)) (call 
     above_at_stop s p None o stop = absurd stop
     above_at_stop s p (Some later) o stop = bounds_above_where_stop_due m.steps comes (plan_meets call plan stops) s p later o stop
 
-    below_at_stop : (s : S) (p : H × F) (due : Option L) (h : ℕ × Option ℕ) → StopIsDue comes due → HintBy m s (hint p.0 due) h → BoundsBelow PlanSteps (s, (p, due)) h.0
+    below_at_stop : (s : S) (p : H × F) (due : Option L) (h : ℕ × Option ℕ) → StopIsDue comes due → hint p.0 due (m.hints s) h → BoundsBelow PlanSteps (s, (p, due)) h.0
     below_at_stop s p None h stop is = absurd stop
-    below_at_stop s p (Some later) h stop is = bounds_below_where_stop_due m.steps comes (plan_meets call plan stops) s p later h.0 (due_gives later (comes later)).0 refl stop (λ over. let none : h ≡ (0, Some 0) = subst (λ (j : HintPlan). HintBy m s j h) (none_at_end p.0 later over) is in let zero = ap (λ (z : ℕ × Option ℕ). z.0) none in omega (arith, zero))
+    below_at_stop s p (Some later) h stop is = bounds_below_where_stop_due m.steps comes (plan_meets call plan stops) s p later h.0 (due_gives later (comes later)).0 refl stop (λ over. let none = none_at_end p.0 later over (m.hints s) h is in let zero = ap (λ (z : ℕ × Option ℕ). z.0) none in omega (arith, zero))
 
     above_of_made : (p : PlanState) (o : Option ℕ) → (done p.1.1 → ⊥) → (k : ℕ × Option ℕ) → m.hints p.0 k → o ≡ high p.1.0.0 p.1.1 k.1 → m.sound.above p.0 k.1 → BoundsAbove PlanSteps p o
     above_of_made p o unstopped k is by sound = subst (λ (u : Option ℕ). BoundsAbove PlanSteps p u) (sym by) (bounds_above_staged m.steps comes (plan_meets call plan stops) (λ p n. most p.0 n) at_most k.1 (high p.1.0.0 p.1.1 k.1) p.0 p.1.0 p.1.1 (λ n le. above p.1.0.0 p.1.1 unstopped k.1 n le) (holds.above p.0 k is sound))
@@ -552,12 +552,12 @@ stop_where_due B (Some (Some e)) some = tt
 
 -- `most h n` and `Few h low n` bound the items, as in `MakesAtMost` and `MakesNoFewer`; `low` and `high` are the bounds of the hint where no end is due.
 module _ {H F Q R X B E : Type 0} (call : F → Q → R → F → Type 0) (plan : H → X → Plan Q R (Transition H B (Option E) E)) (stops : H → Option E → Transition H B (Option E) E) (most : H → ℕ → ℕ) (Few : H → ℕ → ℕ → Type 0) (low : H → ℕ → ℕ) (high : H → Option ℕ → Option ℕ) (above : (h : H) (o : Option ℕ) (n : ℕ) → IfSome o (λ j. n ≤ j) → IfSome (high h o) (λ j. most h n ≤ j)) (below : (h : H) (n k : ℕ) → Few h n k → low h n ≤ k) where
-  abbrev hint_held : H → Option (Option E) → HintPlan
-  hint_held h due = hint_unless_end (calls tt (λ k. (low h k.0, high h k.1))) due
+  abbrev hint_held : H → Option (Option E) → (ℕ × Option ℕ → Type 0) → ℕ × Option ℕ → Type 0
+  hint_held h due hints j = hint_unless_end (λ k. (low h k.0, high h k.1)) due hints j
 
-  none_where_end_due : (h : H) (stop : Option E) → stop_answer {B = B} stop ≡ end → hint_held h (Some stop) ≡ makes (0, Some 0)
-  none_where_end_due h None over = refl
-  none_where_end_due h (Some e) over = absurd cc
+  none_where_end_due : (h : H) (stop : Option E) → stop_answer {B = B} stop ≡ end → (hints : ℕ × Option ℕ → Type 0) (k : ℕ × Option ℕ) → hint_held h (Some stop) hints k → k ≡ (0, Some 0)
+  none_where_end_due h None over hints k is = is
+  none_where_end_due h (Some e) over hints k is = absurd cc
 
   above_where_open : (h : H) (due : Option (Option E)) → (IsSome due → ⊥) → (o : Option ℕ) (n : ℕ) → IfSome o (λ j. n ≤ j) → IfSome (high h o) (λ j. due_total {B = B} stop_comes 0 due + most h n ≤ j)
   above_where_open h None unstopped o n le = if_some_at_least_of_smaller (high h o) (0 + most h n) (most h n) (omega arith) (above h o n le)
@@ -616,5 +616,5 @@ module _ {H B : Type 0} (E : Type 0) (kept : H → Option B) (empty : H → H) (
       no_fewer_at_failure = λ h e low. few_at_failure (kept h) e _ _;
     }
 
-    pub one_held_hold : {S : Type 0} (m : Contract S X E) → HintsHold m.steps m.hints m.sound → HintsHold (λ p r q. stage_step stop_comes (plan_meets call plan (λ h stop. (before_stop (kept h) stop, empty h))) m.steps p r q) (plan_hint m (λ h due. hint_unless_end (calls tt (held_hint (held h))) due)) (held_sound m (λ h. held_hint (held h)))
+    pub one_held_hold : {S : Type 0} (m : Contract S X E) → HintsHold m.steps m.hints m.sound → HintsHold (λ p r q. stage_step stop_comes (plan_meets call plan (λ h stop. (before_stop (kept h) stop, empty h))) m.steps p r q) (plan_hint m (λ h due hints k. hint_unless_end (held_hint (held h)) due hints k)) (held_sound m (λ h. held_hint (held h)))
     one_held_hold m holds = held_hold call plan (λ h stop. (before_stop (kept h) stop, empty h)) (λ h n. n + held h) (λ h low n. min (low + held h) 1 ≤ n) (λ h n. min (n + held h) 1) (λ h o. fitting_sum o (Some (held h))) (λ h o n le. if_some_fitting_sum_at_least_both o (Some (held h)) n (held h) (n + held h) (omega arith) le (omega arith)) (λ h n k few. few) makes_held m holds
