@@ -211,7 +211,7 @@ module _ {F A K E : Type 0} (from : AllocError → E → Type 0) (eq : K → K �
 
   -- its rule
   abbrev pub chunk_by_rule : Rule (Option (Group K A) × F) A (Group K A) (Option E) E
-  chunk_by_rule = closure_rule (takes_key g) (chunk_by_plan eq) (buffering puts_by_key (chunk_by_plan eq) chunk_by_stops held_one (λ held. held_hint (held_one held)))
+  chunk_by_rule = closure_rule (takes_key g) (chunk_by_plan eq) (buffering puts_by_key (chunk_by_plan eq) chunk_by_stops held_one held_hint)
 
   -- `ChunkBy`: the items in groups, each where the next key differs or a stop stands. The closure's failure and a failed allocation are stops. The parts are the source, the group that is held beside the closure, and the stop that is due.
   abbrev pub ChunkByTrace : {S : Type 0} → (S → List (Answered A E) → S → Type 0) → S × ((Option (Group K A) × F) × Option (Option E)) → List (Answered (Group K A) E) → S × ((Option (Group K A) × F) × Option (Option E)) → Type 0

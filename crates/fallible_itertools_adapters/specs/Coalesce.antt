@@ -35,7 +35,7 @@ module _ {A : Type 0} (eq : A → A → Bool) where
 
   -- its rule
   abbrev pub dedup_rule : {E : Type 0} → Rule (Option A × Unit {0}) A A (Option E) E
-  dedup_rule = buffering calls_nothing dedup_plan dedup_stops held_one (λ held. held_hint (held_one held))
+  dedup_rule = buffering calls_nothing dedup_plan dedup_stops held_one held_hint
 
   -- `Dedup`: the first of adjacent equal items, each where the next one that differs stands or a stop.
   abbrev pub DedupTrace : {S E : Type 0} → (S → List (Answered A E) → S → Type 0) → S × ((Option A × Unit {0}) × Option (Option E)) → List (Answered A E) → S × ((Option A × Unit {0}) × Option (Option E)) → Type 0
@@ -84,7 +84,7 @@ module _ {A F E : Type 0} (g : Mut F (A × (A × Unit {0})) (OneOrBoth A E)) whe
 
   -- its rule
   abbrev pub coalesce_rule : Rule (Option A × F) A A (Option E) E
-  coalesce_rule = closure_rule coalesce_takes coalesce_plan (buffering coalesce_call coalesce_plan dedup_stops held_one (λ held. held_hint (held_one held)))
+  coalesce_rule = closure_rule coalesce_takes coalesce_plan (buffering coalesce_call coalesce_plan dedup_stops held_one held_hint)
 
   -- `Coalesce`: adjacent items put together, each where the next one that isn't put to it stands or a stop; the closure's failure is a stop.
   abbrev pub CoalesceTrace : {S : Type 0} → (S → List (Answered A E) → S → Type 0) → S × ((Option A × F) × Option (Option E)) → List (Answered A E) → S × ((Option A × F) × Option (Option E)) → Type 0
@@ -133,7 +133,7 @@ module _ {A F E : Type 0} (g : Mut F (Bor A × (Bor A × Unit {0})) (Result Bool
 
   -- its rule
   abbrev pub dedup_by_rule : Rule (Option A × F) A A (Option E) E
-  dedup_by_rule = closure_rule same_takes dedup_by_plan (buffering same_call dedup_by_plan dedup_stops held_one (λ held. held_hint (held_one held)))
+  dedup_by_rule = closure_rule same_takes dedup_by_plan (buffering same_call dedup_by_plan dedup_stops held_one held_hint)
 
   -- `DedupBy`: the first of adjacent items that are the same, each where the next one that differs stands or a stop; the closure's failure is a stop.
   abbrev pub DedupByTrace : {S : Type 0} → (S → List (Answered A E) → S → Type 0) → S × ((Option A × F) × Option (Option E)) → List (Answered A E) → S × ((Option A × F) × Option (Option E)) → Type 0
@@ -185,7 +185,7 @@ module _ {A K : Type 0} (eq : K → K → Bool) where
   module _ {F E : Type 0} (g : Mut F (Bor A × Unit {0}) (Result K E)) where
     -- its rule
     abbrev pub dedup_by_key_rule : Rule (Option (K × A) × F) A A (Option E) E
-    dedup_by_key_rule = closure_rule (takes_by_reference g) dedup_key_plan (buffering (call_by_reference g) dedup_key_plan dedup_key_stops held_one (λ held. held_hint (held_one held)))
+    dedup_by_key_rule = closure_rule (takes_by_reference g) dedup_key_plan (buffering (call_by_reference g) dedup_key_plan dedup_key_stops held_one held_hint)
 
     -- `DedupByKey`: the first of adjacent items with equal keys, each where the next one that differs stands or a stop; the closure's failure is a stop.
     abbrev pub DedupByKeyTrace : {S : Type 0} → (S → List (Answered A E) → S → Type 0) → S × ((Option (K × A) × F) × Option (Option E)) → List (Answered A E) → S × ((Option (K × A) × F) × Option (Option E)) → Type 0
@@ -253,7 +253,7 @@ module _ {A : Type 0} (eq : A → A → Bool) where
 
   -- its rule
   abbrev pub dedup_with_count_rule : {E : Type 0} → Rule (Option (ℕ × A) × Unit {0}) A (ℕ × A) (Option E) E
-  dedup_with_count_rule = buffering (calls_function are_equal) count_plan count_stops held_one (λ held. held_hint (held_one held))
+  dedup_with_count_rule = buffering (calls_function are_equal) count_plan count_stops held_one held_hint
 
   -- `DedupWithCount`: the first of adjacent equal items beside their number, each where the next one that differs stands or a stop.
   abbrev pub DedupWithCountTrace : {S E : Type 0} → (S → List (Answered A E) → S → Type 0) → S × ((Option (ℕ × A) × Unit {0}) × Option (Option E)) → List (Answered (ℕ × A) E) → S × ((Option (ℕ × A) × Unit {0}) × Option (Option E)) → Type 0
@@ -276,7 +276,7 @@ dedup_with_count_made = record { make = λ p. record { it = p.0; stage = p.1 }; 
 module _ {A F E : Type 0} (g : Mut F (Bor A × (Bor A × Unit {0})) (Result Bool E)) where
   -- its rule
   abbrev pub dedup_by_with_count_rule : Rule (Option (ℕ × A) × F) A (ℕ × A) (Option E) E
-  dedup_by_with_count_rule = closure_rule (same_takes g) count_plan (buffering (same_call g) count_plan count_stops held_one (λ held. held_hint (held_one held)))
+  dedup_by_with_count_rule = closure_rule (same_takes g) count_plan (buffering (same_call g) count_plan count_stops held_one held_hint)
 
   -- `DedupByWithCount`: the first of adjacent items that are the same beside their number, each where the next one that differs stands or a stop; the closure's failure is a stop.
   abbrev pub DedupByWithCountTrace : {S : Type 0} → (S → List (Answered A E) → S → Type 0) → S × ((Option (ℕ × A) × F) × Option (Option E)) → List (Answered (ℕ × A) E) → S × ((Option (ℕ × A) × F) × Option (Option E)) → Type 0

@@ -2,7 +2,7 @@
 ghost use Rattle.std.specs.Prelude.{◌≡◌, if◌then◌else◌, Some, None, Ok, Err};
 ghost use Rattle.fallible_iterator.specs.Folds.{CallableDriving, Driven, TurnThrough, beside, beside_names};
 ghost use Rattle.fallible_iterator.specs.Passing.{IfItem};
-ghost use Rattle.fallible_itertools_adapters.specs.Staging.{before_stop, held_hint, DrawsUpTo, DueTakes, DueTold, IsStage, EmittedTakes, EmittedTold, Met, MetTakes, PassesNoneOver, Rule, StageTurns, TakesAll, Told, due_gives, rule_meets, stage_step, stop_answer, held_one, hint_unless_end};
+ghost use Rattle.fallible_itertools_adapters.specs.Staging.{before_stop, held_hint, DrawsUpTo, DueTakes, DueTold, IsStage, EmittedTakes, EmittedTold, Met, MetTakes, PassesNoneOver, Rule, StageTurns, TakesAll, Told, due_gives, rule_meets, stage_step, stop_answer, hint_unless_end};
 ghost use Rattle.std.specs.declared.ops.ControlFlow.TheVariants.{Break};
 
 use fallible_iterator::extending::Beside;
@@ -59,7 +59,7 @@ pub fn let_go<B, E>(held: Option<B>, stop: Stop<E>) -> Emitted<B, Stop<E>, E>
 
 /// The hint of an adapter that buffers an item or none, if no end is due: at least one item if the source has at least one or one is buffered, and at most the source's and what is buffered.
 pub fn with_held(hint: (usize, Option<usize>), is_held: bool) -> (usize, Option<usize>)
-    ensures { result ≡ held_hint (if is_held then 1 else 0) hint }
+    ensures { result ≡ held_hint {A = Unit {0}} (if is_held then Some tt else None) hint }
 {
     let low = if hint.0 > 0 || is_held { 1 } else { 0 };
     let high = match hint.1 {
@@ -75,7 +75,7 @@ pub fn hint_with_held<I: FallibleIterator, H>(
     due: &Option<Stop<I::Error>>,
     held: &Option<H>,
 ) -> (usize, Option<usize>)
-    ensures { hint_unless_end (held_hint (held_one held.now)) due.now (I.contract.hints it.now) result }
+    ensures { hint_unless_end (held_hint held.now) due.now (I.contract.hints it.now) result }
 {
     match *due {
         Some(None) => (0, Some(0)),

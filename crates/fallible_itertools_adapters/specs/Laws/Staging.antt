@@ -15,7 +15,7 @@ use Rattle.fallible_iterator.specs.Laws.Contract.{kept_by_draws_of_one_draw, kep
 use Rattle.fallible_iterator.specs.Laws.Hints.Drawn.{brackets_any_lower_where_no_end, brackets_zero_where_no_item, if_some_at_least_of_smaller}
 use Rattle.fallible_iterator.specs.Laws.Hints.Joining.{if_some_fitting_sum_at_least_both}
 use Rattle.fallible_iterator.specs.Laws.LawForm.{IsTraced}
-use Rattle.fallible_itertools_adapters.specs.Staging.{DrawsUpTo, Emits, Emitted, StagedTrace, due_gives, emits_due, emits_later, emits_first, emits_nothing, passes_over, stage_step, yields, weight, due_total, emitted_total, IsStage, IsDue, IsEmitted, MayMeet, MayCome, EndsInStop, IsStop, stop_comes, before_stop, held_one, Follows, IsTransition, Transition, Plan, bounded, calls, makes, passes, Rule, rule_contract, rule_meets, plan_meets, plan_takes, hint_unless_end, held_hint, stop_answer}
+use Rattle.fallible_itertools_adapters.specs.Staging.{DrawsUpTo, Emits, Emitted, StagedTrace, due_gives, emits_due, emits_later, emits_first, emits_nothing, passes_over, stage_step, yields, weight, due_total, emitted_total, IsStage, IsDue, IsEmitted, MayMeet, MayCome, EndsInStop, IsStop, stop_comes, before_stop, held_one, Follows, IsTransition, Transition, Plan, bounded, calls, makes, passes, Rule, rule_contract, rule_meets, plan_meets, plan_takes, hint_unless_end, stop_answer}
 
 -- ---- The runs of a stage are its traces: one law of all stages, over what the source's law says
 
@@ -616,5 +616,5 @@ module _ {H B : Type 0} (E : Type 0) (kept : H → Option B) (empty : H → H) (
       no_fewer_at_failure = λ h e low. few_at_failure (kept h) e _ _;
     }
 
-    pub one_held_hold : {S : Type 0} (m : Contract S X E) → HintsHold m.steps m.hints m.sound → HintsHold (λ p r q. stage_step stop_comes (plan_meets call plan (λ h stop. (before_stop (kept h) stop, empty h))) m.steps p r q) (plan_hint m (λ h due hints k. hint_unless_end (held_hint (held h)) due hints k)) (held_sound m (λ h. held_hint (held h)))
+    pub one_held_hold : {S : Type 0} (m : Contract S X E) → HintsHold m.steps m.hints m.sound → HintsHold (λ p r q. stage_step stop_comes (plan_meets call plan (λ h stop. (before_stop (kept h) stop, empty h))) m.steps p r q) (plan_hint m (λ h due hints k. hint_unless_end (λ j. (min (j.0 + held h) 1, fitting_sum j.1 (Some (held h)))) due hints k)) (held_sound m (λ h j. (min (j.0 + held h) 1, fitting_sum j.1 (Some (held h)))))
     one_held_hold m holds = held_hold call plan (λ h stop. (before_stop (kept h) stop, empty h)) (λ h n. n + held h) (λ h low n. min (low + held h) 1 ≤ n) (λ h n. min (n + held h) 1) (λ h o. fitting_sum o (Some (held h))) (λ h o n le. if_some_fitting_sum_at_least_both o (Some (held h)) n (held h) (n + held h) (omega arith) le (omega arith)) (λ h n k few. few) makes_held m holds
