@@ -13,8 +13,6 @@ use Rattle.fallible_itertools_adapters.specs.Staging.{held_one, Transition, Plan
 use Rattle.fallible_itertools_adapters.specs.declared.intersperse.Intersperse.{Intersperse}
 use Rattle.fallible_itertools_adapters.specs.declared.intersperse.IntersperseWith.{IntersperseWith}
 
--- ---- Adapters that put a separator before each item but the first; here `Intersperse`, whose separators are clones
-
 -- ---- what each item makes
 
 -- the separator, or what making it failed with, and then the item is due
