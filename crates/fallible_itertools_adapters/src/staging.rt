@@ -1,5 +1,5 @@
 //! Adapters of one source by what is emitted at each of its answers: nothing, or one answer and what is due after it.
-ghost use Rattle.std.specs.Prelude.{◌≡◌, if◌then◌else◌, Some, None, Ok, Err};
+ghost use Rattle.std.specs.Prelude.{◌≡◌, Some, None, Ok, Err};
 ghost use Rattle.fallible_iterator.specs.Folds.{CallableDriving, Driven, TurnThrough, beside, beside_names};
 ghost use Rattle.fallible_iterator.specs.Passing.{IfItem};
 ghost use Rattle.fallible_itertools_adapters.specs.Staging.{before_stop, held_hint, DrawsUpTo, DueTakes, DueTold, IsStage, EmittedTakes, EmittedTold, Met, MetTakes, PassesNoneOver, Rule, StageTurns, TakesAll, Told, due_gives, rule_meets, stage_step, stop_answer, hint_unless_end};
@@ -58,9 +58,10 @@ pub fn let_go<B, E>(held: Option<B>, stop: Stop<E>) -> Emitted<B, Stop<E>, E>
 }
 
 /// The hint of an adapter that buffers an item or none, if no end is due: at least one item if the source has at least one or one is buffered, and at most the source's and what is buffered.
-pub fn with_held(hint: (usize, Option<usize>), is_held: bool) -> (usize, Option<usize>)
-    ensures { result ≡ held_hint {A = Unit {0}} (if is_held then Some tt else None) hint }
+pub fn with_held<H>(hint: (usize, Option<usize>), held: &Option<H>) -> (usize, Option<usize>)
+    ensures { result ≡ held_hint held.now hint }
 {
+    let is_held = held.is_some();
     let low = if hint.0 > 0 || is_held { 1 } else { 0 };
     let high = match hint.1 {
         Some(bound) => bound.checked_add(if is_held { 1 } else { 0 }),
@@ -79,7 +80,7 @@ pub fn hint_with_held<I: FallibleIterator, H>(
 {
     match *due {
         Some(None) => (0, Some(0)),
-        _ => with_held(it.size_hint(), held.is_some()),
+        _ => with_held(it.size_hint(), held),
     }
 }
 
