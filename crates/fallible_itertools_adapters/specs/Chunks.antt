@@ -12,7 +12,7 @@ use Rattle.fallible_iterator.specs.Contract.{Contract, Inverse}
 use Rattle.fallible_iterator.specs.Hints.{fitting_sum}
 pub use Rattle.fallible_iterator.specs.Making.{IsRefusal}
 use Rattle.fallible_iterator.specs.Traces.{Answered, item}
-use Rattle.fallible_itertools_adapters.specs.Staging.{before_stop, buffering, held_one, Rule, rule_contract, Transition, Plan, calls, rule_meets, as_function, plan_does, staged, StagedTrace, one_emitted, stop_comes, bounded, closure_rule, held_hint}
+use Rattle.fallible_itertools_adapters.specs.Staging.{before_stop, buffering, held_one, Rule, rule_contract, Transition, Plan, calls, rule_meets, as_function, plan_does, staged, StagedTrace, stop_comes, bounded, closure_rule, held_hint}
 use Rattle.fallible_itertools_adapters.specs.declared.chunks.ChunkBy.{ChunkBy}
 use Rattle.fallible_itertools_adapters.specs.declared.chunks.Chunks.{Chunks}
 
@@ -72,7 +72,7 @@ module _ {V E : Type 0} where
   -- a batch with too few items is held, and a whole one is yielded
   abbrev pub batch_at : ℕ → V → Bool → Transition (ℕ × Option V) V (Option E) E
   batch_at n v true = (None, (n, Some v))
-  batch_at n v false = (one_emitted (item v), (n, None))
+  batch_at n v false = (Some (item v, None), (n, None))
 
   -- The batch with the item, by how many it has then. If an allocation failed the item is lost, and that is a stop.
   abbrev pub batch_by : (V → ℕ) → ℕ × Option V → Put V E → Transition (ℕ × Option V) V (Option E) E
@@ -176,7 +176,7 @@ module _ {K V E : Type 0} where
   -- where the key is that of the group that is held, the group goes on; where it is another, that group is yielded, and another begins
   abbrev pub group_at : K × V → K → V → Bool → Transition (Option (K × V)) (K × V) (Option E) E
   group_at g k v true = (None, Some (g.0, v))
-  group_at g k v false = (one_emitted (item g), Some (k, v))
+  group_at g k v false = (Some (item g, None), Some (k, v))
 
   -- What becomes of an item by its key. If its key failed, or an allocation, the item is lost, and that is a stop.
   abbrev pub group_by : (K → K → Bool) → Option (K × V) → KeyedPut K V E → Transition (Option (K × V)) (K × V) (Option E) E
@@ -211,7 +211,7 @@ module _ {F A K E : Type 0} (from : AllocError → E → Type 0) (eq : K → K �
 
   -- its rule
   abbrev pub chunk_by_rule : Rule (Option (Group K A) × F) A (Group K A) (Option E) E
-  chunk_by_rule = closure_rule (takes_key g) (chunk_by_plan eq) (buffering puts_by_key (chunk_by_plan eq) chunk_by_stops held_one (λ held. held_hint (held_one held)))
+  chunk_by_rule = closure_rule (takes_key g) (chunk_by_plan eq) (buffering puts_by_key (chunk_by_plan eq) chunk_by_stops held_one held_hint)
 
   -- `ChunkBy`: the items in groups, each where the next key differs or a stop stands. The closure's failure and a failed allocation are stops. The parts are the source, the group that is held beside the closure, and the stop that is due.
   abbrev pub ChunkByTrace : {S : Type 0} → (S → List (Answered A E) → S → Type 0) → S × ((Option (Group K A) × F) × Option (Option E)) → List (Answered (Group K A) E) → S × ((Option (Group K A) × F) × Option (Option E)) → Type 0

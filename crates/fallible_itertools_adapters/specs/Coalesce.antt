@@ -8,7 +8,7 @@ use Rattle.fallible_iterator.specs.Contract.{Contract, Inverse}
 use Rattle.fallible_iterator.specs.Folds.{call_with, takes_with}
 use Rattle.fallible_iterator.specs.Picking.{call_at_two, takes_at_two}
 use Rattle.fallible_iterator.specs.Traces.{Answered, failure, item}
-use Rattle.fallible_itertools_adapters.specs.Staging.{Rule, before_stop, closure_rule, rule_contract, Transition, Plan, bounded, calls_nothing, makes, rule_meets, as_function, plan_does, staged, StagedTrace, one_emitted, stop_comes, calls, calls_function, buffering, held_hint, held_one}
+use Rattle.fallible_itertools_adapters.specs.Staging.{Rule, before_stop, closure_rule, rule_contract, Transition, Plan, bounded, calls_nothing, makes, rule_meets, as_function, plan_does, staged, StagedTrace, stop_comes, calls, calls_function, buffering, held_hint, held_one}
 use Rattle.fallible_itertools_adapters.specs.declared.coalesce.Coalesce.{Coalesce}
 use Rattle.fallible_itertools_adapters.specs.declared.coalesce.Dedup.{Dedup}
 use Rattle.fallible_itertools_adapters.specs.declared.coalesce.DedupBy.{DedupBy}
@@ -21,7 +21,7 @@ use Rattle.fallible_itertools_adapters.specs.declared.coalesce.DedupWithCount.{D
 -- The held item y stays if the next one, x, is the same; otherwise y comes, and x is held.
 abbrev pub unless_same : {A E : Type 0} → A → A → Bool → Transition (Option A) A (Option E) E
 unless_same y x true = (None, Some y)
-unless_same y x false = (one_emitted (item y), Some x)
+unless_same y x false = (Some (item y, None), Some x)
 
 -- At a stop the held item comes, and nothing is held then.
 abbrev pub dedup_stops : {A E : Type 0} → Option A → Option E → Transition (Option A) A (Option E) E
@@ -35,7 +35,7 @@ module _ {A : Type 0} (eq : A → A → Bool) where
 
   -- its rule
   abbrev pub dedup_rule : {E : Type 0} → Rule (Option A × Unit {0}) A A (Option E) E
-  dedup_rule = buffering calls_nothing dedup_plan dedup_stops held_one (λ held. held_hint (held_one held))
+  dedup_rule = buffering calls_nothing dedup_plan dedup_stops held_one held_hint
 
   -- `Dedup`: the first of adjacent equal items, each where the next one that differs stands or a stop.
   abbrev pub DedupTrace : {S E : Type 0} → (S → List (Answered A E) → S → Type 0) → S × ((Option A × Unit {0}) × Option (Option E)) → List (Answered A E) → S × ((Option A × Unit {0}) × Option (Option E)) → Type 0
@@ -66,8 +66,8 @@ OneOrBoth A E = Result (Result A (A × A)) E
 -- One item that it makes of both is held in their place; of two the first comes and the second is held; if it fails, both are lost.
 abbrev pub coalesced_by : {A E : Type 0} → OneOrBoth A E → Transition (Option A) A (Option E) E
 coalesced_by (Ok (Ok z)) = (None, Some z)
-coalesced_by (Ok (Err both)) = (one_emitted (item both.0), Some both.1)
-coalesced_by (Err e) = (one_emitted (failure e), None)
+coalesced_by (Ok (Err both)) = (Some (item both.0, None), Some both.1)
+coalesced_by (Err e) = (Some (failure e, None), None)
 
 -- An item is held, and the closure is called on it and the next one.
 abbrev pub coalesce_plan : {A E : Type 0} → Option A → A → Plan (A × A) (OneOrBoth A E) (Transition (Option A) A (Option E) E)
@@ -84,7 +84,7 @@ module _ {A F E : Type 0} (g : Mut F (A × (A × Unit {0})) (OneOrBoth A E)) whe
 
   -- its rule
   abbrev pub coalesce_rule : Rule (Option A × F) A A (Option E) E
-  coalesce_rule = closure_rule coalesce_takes coalesce_plan (buffering coalesce_call coalesce_plan dedup_stops held_one (λ held. held_hint (held_one held)))
+  coalesce_rule = closure_rule coalesce_takes coalesce_plan (buffering coalesce_call coalesce_plan dedup_stops held_one held_hint)
 
   -- `Coalesce`: adjacent items put together, each where the next one that isn't put to it stands or a stop; the closure's failure is a stop.
   abbrev pub CoalesceTrace : {S : Type 0} → (S → List (Answered A E) → S → Type 0) → S × ((Option A × F) × Option (Option E)) → List (Answered A E) → S × ((Option A × F) × Option (Option E)) → Type 0
@@ -133,7 +133,7 @@ module _ {A F E : Type 0} (g : Mut F (Bor A × (Bor A × Unit {0})) (Result Bool
 
   -- its rule
   abbrev pub dedup_by_rule : Rule (Option A × F) A A (Option E) E
-  dedup_by_rule = closure_rule same_takes dedup_by_plan (buffering same_call dedup_by_plan dedup_stops held_one (λ held. held_hint (held_one held)))
+  dedup_by_rule = closure_rule same_takes dedup_by_plan (buffering same_call dedup_by_plan dedup_stops held_one held_hint)
 
   -- `DedupBy`: the first of adjacent items that are the same, each where the next one that differs stands or a stop; the closure's failure is a stop.
   abbrev pub DedupByTrace : {S : Type 0} → (S → List (Answered A E) → S → Type 0) → S × ((Option A × F) × Option (Option E)) → List (Answered A E) → S × ((Option A × F) × Option (Option E)) → Type 0
@@ -170,7 +170,7 @@ module _ {A K : Type 0} (eq : K → K → Bool) where
   -- The held item with its key stays if the next one has an equal key; otherwise it comes, and the next one is held.
   abbrev pub unless_same_key : {E : Type 0} → K × A → K × A → Bool → Transition (Option (K × A)) A (Option E) E
   unless_same_key held next true = (None, Some held)
-  unless_same_key held next false = (one_emitted (item held.1), Some next)
+  unless_same_key held next false = (Some (item held.1, None), Some next)
 
   -- By the key of the next item, x; where the closure makes none, x is lost, and its failure is a stop.
   abbrev pub keyed_by : {E : Type 0} → Option (K × A) → A → Result K E → Transition (Option (K × A)) A (Option E) E
@@ -185,7 +185,7 @@ module _ {A K : Type 0} (eq : K → K → Bool) where
   module _ {F E : Type 0} (g : Mut F (Bor A × Unit {0}) (Result K E)) where
     -- its rule
     abbrev pub dedup_by_key_rule : Rule (Option (K × A) × F) A A (Option E) E
-    dedup_by_key_rule = closure_rule (takes_by_reference g) dedup_key_plan (buffering (call_by_reference g) dedup_key_plan dedup_key_stops held_one (λ held. held_hint (held_one held)))
+    dedup_by_key_rule = closure_rule (takes_by_reference g) dedup_key_plan (buffering (call_by_reference g) dedup_key_plan dedup_key_stops held_one held_hint)
 
     -- `DedupByKey`: the first of adjacent items with equal keys, each where the next one that differs stands or a stop; the closure's failure is a stop.
     abbrev pub DedupByKeyTrace : {S : Type 0} → (S → List (Answered A E) → S → Type 0) → S × ((Option (K × A) × F) × Option (Option E)) → List (Answered A E) → S × ((Option (K × A) × F) × Option (Option E)) → Type 0
@@ -216,7 +216,7 @@ one_more n = min (n + 1) (2 ^ 64 - 1)
 -- What comes of an item x beside the one that is held with its number, by whether they are the same: if they are, x is left out and counted; otherwise what is held comes, and x is held with 1. If that failed, x is lost, and what is held comes before the failure.
 abbrev pub counted_by : {A E : Type 0} → ℕ × A → A → Result Bool E → Transition (Option (ℕ × A)) (ℕ × A) (Option E) E
 counted_by p x (Ok true) = (None, Some (one_more p.0, p.1))
-counted_by p x (Ok false) = (one_emitted (item p), Some (1, x))
+counted_by p x (Ok false) = (Some (item p, None), Some (1, x))
 counted_by p x (Err e) = (before_stop (Some p) (Some e), None)
 
 -- The first of items that are the same is held with their number. A call on it and the next item says whether they are the same.
@@ -253,7 +253,7 @@ module _ {A : Type 0} (eq : A → A → Bool) where
 
   -- its rule
   abbrev pub dedup_with_count_rule : {E : Type 0} → Rule (Option (ℕ × A) × Unit {0}) A (ℕ × A) (Option E) E
-  dedup_with_count_rule = buffering (calls_function are_equal) count_plan count_stops held_one (λ held. held_hint (held_one held))
+  dedup_with_count_rule = buffering (calls_function are_equal) count_plan count_stops held_one held_hint
 
   -- `DedupWithCount`: the first of adjacent equal items beside their number, each where the next one that differs stands or a stop.
   abbrev pub DedupWithCountTrace : {S E : Type 0} → (S → List (Answered A E) → S → Type 0) → S × ((Option (ℕ × A) × Unit {0}) × Option (Option E)) → List (Answered (ℕ × A) E) → S × ((Option (ℕ × A) × Unit {0}) × Option (Option E)) → Type 0
@@ -276,7 +276,7 @@ dedup_with_count_made = record { make = λ p. record { it = p.0; stage = p.1 }; 
 module _ {A F E : Type 0} (g : Mut F (Bor A × (Bor A × Unit {0})) (Result Bool E)) where
   -- its rule
   abbrev pub dedup_by_with_count_rule : Rule (Option (ℕ × A) × F) A (ℕ × A) (Option E) E
-  dedup_by_with_count_rule = closure_rule (same_takes g) count_plan (buffering (same_call g) count_plan count_stops held_one (λ held. held_hint (held_one held)))
+  dedup_by_with_count_rule = closure_rule (same_takes g) count_plan (buffering (same_call g) count_plan count_stops held_one held_hint)
 
   -- `DedupByWithCount`: the first of adjacent items that are the same beside their number, each where the next one that differs stands or a stop; the closure's failure is a stop.
   abbrev pub DedupByWithCountTrace : {S : Type 0} → (S → List (Answered A E) → S → Type 0) → S × ((Option (ℕ × A) × F) × Option (Option E)) → List (Answered (ℕ × A) E) → S × ((Option (ℕ × A) × F) × Option (Option E)) → Type 0

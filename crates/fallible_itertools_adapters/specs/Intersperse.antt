@@ -9,21 +9,19 @@ use Rattle.fallible_iterator.specs.Refusals.{RefusedAs}
 use Rattle.fallible_iterator.specs.Sound.{as_made}
 use Rattle.fallible_iterator.specs.Sources.FromFn.{call_of_none}
 use Rattle.fallible_iterator.specs.Traces.{Answered, item}
-use Rattle.fallible_itertools_adapters.specs.Staging.{held_one, HintPlan, Transition, Plan, calls, makes, none_held, passes, rule_meets, plan_rule, rule_contract, Rule, plan_does, staged, StagedTrace, item_comes, emitted_then, one_emitted, closure_rule}
+use Rattle.fallible_itertools_adapters.specs.Staging.{held_one, Transition, Plan, calls, makes, none_held, passes, rule_meets, plan_rule, rule_contract, Rule, plan_does, staged, StagedTrace, item_comes, closure_rule}
 use Rattle.fallible_itertools_adapters.specs.declared.intersperse.Intersperse.{Intersperse}
 use Rattle.fallible_itertools_adapters.specs.declared.intersperse.IntersperseWith.{IntersperseWith}
-
--- ---- Adapters that put a separator before each item but the first; here `Intersperse`, whose separators are clones
 
 -- ---- what each item makes
 
 -- the separator, or what making it failed with, and then the item is due
 abbrev pub separated_by : {A E : Type 0} → A → Result A E → Transition Bool A A E
-separated_by x v = (emitted_then (result_answer v) x, true)
+separated_by x v = (Some (result_answer v, Some x), true)
 
 -- Whether an item came is held. The first item is yielded; before each later one a separator is made.
 abbrev pub intersperse_plan : {A E : Type 0} → Bool → A → Plan (Unit {0}) (Result A E) (Transition Bool A A E)
-intersperse_plan false x = makes (one_emitted (item x), true)
+intersperse_plan false x = makes (Some (item x, None), true)
 intersperse_plan true x = calls tt (separated_by x)
 
 -- ---- its hint
@@ -51,12 +49,12 @@ abbrev pub intersperse_hint : {A : Type 0} → Bool → Option A → ℕ × Opti
 intersperse_hint came due h = (min (interspersed_items came due h.0) (2 ^ 64 - 1), interspersed_high came due h.1)
 
 -- it is made of the source's
-abbrev pub intersperse_hint_plan : {A : Type 0} → Bool → Option A → HintPlan
-intersperse_hint_plan came due = calls tt (intersperse_hint came due)
+abbrev pub intersperse_hint_by : {A : Type 0} → Bool → Option A → (ℕ × Option ℕ → Type 0) → ℕ × Option ℕ → Type 0
+intersperse_hint_by came due hints h = (k : ℕ × Option ℕ) × hints k × (h ≡ intersperse_hint came due k)
 
 -- the rule: an item of the source is two to come
 abbrev pub intersperse_rule : {F A E : Type 0} → (F → Unit {0} → Result A E → F → Type 0) → Rule (Bool × F) A A A E
-intersperse_rule call = plan_rule item_comes call intersperse_plan passes 2 none_held intersperse_hint_plan (λ S m. as_made (λ p. p.0) m.hints m.sound (λ p. intersperse_hint p.1.0.0 p.1.1))
+intersperse_rule call = plan_rule item_comes call intersperse_plan passes 2 none_held intersperse_hint_by (λ S m. as_made (λ p. p.0) m.hints m.sound (λ p. intersperse_hint p.1.0.0 p.1.1))
 
 -- ---- `Intersperse`
 

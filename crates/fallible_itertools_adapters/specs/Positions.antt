@@ -12,7 +12,7 @@ use Rattle.fallible_iterator.specs.Outcome.{Outcome}
 use Rattle.fallible_iterator.specs.Passing.{passes_all, leaving_out_contract}
 use Rattle.fallible_iterator.specs.Sound.{above_as_source}
 use Rattle.fallible_iterator.specs.Traces.{Answered, item}
-use Rattle.fallible_itertools_adapters.specs.Staging.{before_stop, buffering, held_one, Rule, rule_contract, Transition, Plan, calls_nothing, makes, rule_meets, as_function, plan_does, staged, StagedTrace, one_emitted, stop_comes}
+use Rattle.fallible_itertools_adapters.specs.Staging.{before_stop, buffering, held_one, Rule, rule_contract, Transition, Plan, calls_nothing, makes, rule_meets, as_function, plan_does, staged, StagedTrace, stop_comes}
 use Rattle.fallible_itertools_adapters.specs.declared.positions.Position.{Position}
 use Rattle.fallible_itertools_adapters.specs.declared.positions.Position.TheVariants.{First, Middle, Last, Only}
 use Rattle.fallible_itertools_adapters.specs.declared.positions.Positions.{Positions}
@@ -80,7 +80,7 @@ position_before_stop false = Only
 -- An item is held until another one or a stop comes, and whether an item since the last stop came before it.
 abbrev pub position_plan : {A E : Type 0} → Option (Bool × A) → A → Plan (Unit {0}) (Unit {0}) (Transition (Option (Bool × A)) (Position × A) (Option E) E)
 position_plan None x = makes (None, Some (false, x))
-position_plan (Some p) x = makes (one_emitted (item (position_before_item p.0, p.1)), Some (true, x))
+position_plan (Some p) x = makes (Some (item (position_before_item p.0, p.1), None), Some (true, x))
 
 -- what is held, with its position before a stop
 abbrev pub positioned_last : {A : Type 0} → Option (Bool × A) → Option (Position × A)

@@ -1,20 +1,20 @@
 -- `TakeWhileInclusive`, which is exhausted after the first item that a predicate rejects.
-use Rattle.std.specs.Prelude.{ℕ, min, Bool, true, false, Option, Some, None, Result, Ok, Err, List, IsSome}
+use Rattle.std.specs.Prelude.{◌≡◌, ℕ, min, Bool, true, false, Option, Some, None, Result, Ok, Err, List, IsSome}
 use Rattle.std.specs.Fn.{Mut}
 use Rattle.std.specs.Borrow.{Bor}
 use Rattle.fallible_iterator.specs.Traces.{Answered, item, failure}
 use Rattle.fallible_iterator.specs.Contract.{Contract, Inverse}
 use Rattle.fallible_iterator.specs.Closures.{call_by_reference, takes_by_reference}
-use Rattle.fallible_itertools_adapters.specs.Staging.{HintPlan, Transition, Plan, calls, closure_rule, makes, plan_rule, rule_contract, Rule, none_held, passes, rule_meets, as_function, plan_does, staged, StagedTrace, ends_come, emitted_then, one_emitted}
+use Rattle.fallible_itertools_adapters.specs.Staging.{Transition, Plan, calls, closure_rule, plan_rule, rule_contract, Rule, none_held, passes, rule_meets, as_function, plan_does, staged, StagedTrace, ends_come}
 use Rattle.fallible_itertools_adapters.specs.declared.take_while_inclusive.TakeWhileInclusive.{TakeWhileInclusive}
 use Rattle.std.proofs.Common.{refl}
 use Rattle.fallible_iterator.specs.Sound.{sound_once, as_made}
 
 -- The item, and after one that the predicate rejects ends come; or the predicate's failure on it.
 abbrev pub inclusive_by : {A E : Type 0} → A → Result Bool E → Transition (Unit {0}) A (Unit {0}) E
-inclusive_by x (Ok true) = (one_emitted (item x), tt)
-inclusive_by x (Ok false) = (emitted_then (item x) tt, tt)
-inclusive_by x (Err e) = (one_emitted (failure e), tt)
+inclusive_by x (Ok true) = (Some (item x, None), tt)
+inclusive_by x (Ok false) = (Some (item x, Some tt), tt)
+inclusive_by x (Err e) = (Some (failure e, None), tt)
 
 -- Nothing is held. The predicate is called on each item.
 abbrev pub inclusive_plan : {A E : Type 0} → Unit {0} → A → Plan A (Result Bool E) (Transition (Unit {0}) A (Unit {0}) E)
@@ -25,13 +25,13 @@ abbrev pub hint_of_first : ℕ × Option ℕ → ℕ × Option ℕ
 hint_of_first k = (min k.0 1, k.1)
 
 -- Until an item was rejected the hint has the source's upper bound, and 1 below if the source has an item for certain: the first one comes, whatever the predicate says of it, or its failure. Then no item comes.
-abbrev pub inclusive_hint_plan : Unit {0} → Option (Unit {0}) → HintPlan
-inclusive_hint_plan u None = calls tt hint_of_first
-inclusive_hint_plan u (Some over) = makes (0, Some 0)
+abbrev pub inclusive_hint : Unit {0} → Option (Unit {0}) → (ℕ × Option ℕ → Type 0) → ℕ × Option ℕ → Type 0
+inclusive_hint u None hints h = (k : ℕ × Option ℕ) × hints k × (h ≡ hint_of_first k)
+inclusive_hint u (Some over) hints h = h ≡ (0, Some 0)
 
 -- its rule
 abbrev pub inclusive_rule : {F A E : Type 0} → Mut F (Bor A × Unit {0}) (Result Bool E) → Rule (Unit {0} × F) A A (Unit {0}) E
-inclusive_rule g = closure_rule (takes_by_reference g) inclusive_plan (plan_rule ends_come (call_by_reference g) inclusive_plan passes 1 none_held inclusive_hint_plan (λ S m. sound_once (λ p. IsSome p.1.1) (as_made (λ p. p.0) m.hints m.sound (λ p. hint_of_first))))
+inclusive_rule g = closure_rule (takes_by_reference g) inclusive_plan (plan_rule ends_come (call_by_reference g) inclusive_plan passes 1 none_held inclusive_hint (λ S m. sound_once (λ p. IsSome p.1.1) (as_made (λ p. p.0) m.hints m.sound (λ p. hint_of_first))))
 
 -- `TakeWhileInclusive`: the source's trace with the predicate called on each item, in which an item is replaced by the predicate's failure on it, up to and with the first rejected item, and then ends without draws. The parts are the source, the predicate, and whether ends are due.
 abbrev pub InclusiveTrace : {S F A E : Type 0} → Mut F (Bor A × Unit {0}) (Result Bool E) → (S → List (Answered A E) → S → Type 0) → S × ((Unit {0} × F) × Option (Unit {0})) → List (Answered A E) → S × ((Unit {0} × F) × Option (Unit {0})) → Type 0

@@ -76,7 +76,7 @@ where
             _ => {
                 let hint = self.it.size_hint();
                 let low = batches(hint.0, self.stage.0.0.0);
-                (low, with_held(hint, self.stage.0.0.1.is_some()).1)
+                (low, with_held(hint, &self.stage.0.0.1).1)
             }
         }
     }

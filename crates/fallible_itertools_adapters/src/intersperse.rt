@@ -1,11 +1,10 @@
 // The adapters that put a separator between each two adjacent items.
-ghost use Rattle.std.specs.Prelude.{◌≡◌, ◌^◌, ◌-◌, min, Option, Result, None, false};
+ghost use Rattle.std.specs.Prelude.{◌≡◌, ◌^◌, ◌-◌, min, Option, Result, Some, None, false};
 ghost use Rattle.fallible_iterator.specs.Contract.{parts_as};
 ghost use Rattle.fallible_iterator.specs.Lists.{result_answer};
 ghost use Rattle.fallible_iterator.specs.Sources.FromFn.{call_of_none};
 ghost use Rattle.fallible_iterator.specs.Laws.Contract.{lawful_parts};
 ghost use Rattle.fallible_itertools_adapters.specs.Intersperse.{fitting, intersperse_contract, intersperse_hint, intersperse_made, intersperse_parts, intersperse_with_contract, intersperse_with_made, intersperse_with_parts, interspersed_items, separator_cloned, intersperse_rule, intersperse_with_rule};
-ghost use Rattle.fallible_itertools_adapters.specs.Staging.{emitted_then};
 ghost use Rattle.fallible_itertools_adapters.specs.Laws.Intersperse.{is_stage_intersperse, lawful_intersperse, lawful_intersperse_with};
 
 use crate::staging::{
@@ -113,7 +112,7 @@ impl<X: Clone + Drop, E: From<AllocError>> Stage<(bool, X), X, E> for SeparatorC
 /// The separator, or what making it failed with, and then the item.
 #[inline(always)]
 pub(crate) fn separated<X, E>(separator: Result<X, E>, item: X) -> Emitted<X, X, E>
-    ensures { result ≡ emitted_then (result_answer separator) item }
+    ensures { result ≡ Some (result_answer separator, Some item) }
 {
     match separator {
         Ok(separator) => one_then(Ok(Some(separator)), item),

@@ -1,8 +1,8 @@
 //! Adapters of one source by what is emitted at each of its answers: nothing, or one answer and what is due after it.
-ghost use Rattle.std.specs.Prelude.{◌≡◌, if◌then◌else◌, Some, None, Ok, Err};
+ghost use Rattle.std.specs.Prelude.{◌≡◌, Some, None, Ok, Err};
 ghost use Rattle.fallible_iterator.specs.Folds.{CallableDriving, Driven, TurnThrough, beside, beside_names};
 ghost use Rattle.fallible_iterator.specs.Passing.{IfItem};
-ghost use Rattle.fallible_itertools_adapters.specs.Staging.{before_stop, held_hint, DrawsUpTo, DueTakes, DueTold, IsStage, EmittedTakes, EmittedTold, Met, MetTakes, PassesNoneOver, Rule, StageTurns, TakesAll, Told, due_comes, due_left, emitted_then, one_emitted, rule_meets, stage_step, stop_answer, HintBy, calls, held_one, hint_unless_end};
+ghost use Rattle.fallible_itertools_adapters.specs.Staging.{before_stop, held_hint, DrawsUpTo, DueTakes, DueTold, IsStage, EmittedTakes, EmittedTold, Met, MetTakes, PassesNoneOver, Rule, StageTurns, TakesAll, Told, due_gives, rule_meets, stage_step, stop_answer, hint_unless_end};
 ghost use Rattle.std.specs.declared.ops.ControlFlow.TheVariants.{Break};
 
 use fallible_iterator::extending::Beside;
@@ -22,7 +22,7 @@ pub type Emitted<B, D, E> = Option<AnswerAndDue<B, D, E>>;
 /// One answer.
 #[inline(always)]
 pub fn one<B, D, E>(answer: Result<Option<B>, E>) -> Emitted<B, D, E>
-    ensures { result ≡ one_emitted answer }
+    ensures { result ≡ Some (answer, None) }
 {
     Some((answer, None))
 }
@@ -30,7 +30,7 @@ pub fn one<B, D, E>(answer: Result<Option<B>, E>) -> Emitted<B, D, E>
 /// One answer, after which `due` is due.
 #[inline(always)]
 pub fn one_then<B, D, E>(answer: Result<Option<B>, E>, due: D) -> Emitted<B, D, E>
-    ensures { result ≡ emitted_then answer due }
+    ensures { result ≡ Some (answer, Some due) }
 {
     Some((answer, Some(due)))
 }
@@ -58,9 +58,10 @@ pub fn let_go<B, E>(held: Option<B>, stop: Stop<E>) -> Emitted<B, Stop<E>, E>
 }
 
 /// The hint of an adapter that buffers an item or none, if no end is due: at least one item if the source has at least one or one is buffered, and at most the source's and what is buffered.
-pub fn with_held(hint: (usize, Option<usize>), is_held: bool) -> (usize, Option<usize>)
-    ensures { result ≡ held_hint (if is_held then 1 else 0) hint }
+pub fn with_held<H>(hint: (usize, Option<usize>), held: &Option<H>) -> (usize, Option<usize>)
+    ensures { result ≡ held_hint held.now hint }
 {
+    let is_held = held.is_some();
     let low = if hint.0 > 0 || is_held { 1 } else { 0 };
     let high = match hint.1 {
         Some(bound) => bound.checked_add(if is_held { 1 } else { 0 }),
@@ -75,12 +76,11 @@ pub fn hint_with_held<I: FallibleIterator, H>(
     due: &Option<Stop<I::Error>>,
     held: &Option<H>,
 ) -> (usize, Option<usize>)
-    ensures { HintBy I.contract it.now
-        (hint_unless_end (calls tt (held_hint (held_one held.now))) due.now) result }
+    ensures { hint_unless_end (held_hint held.now) due.now (I.contract.hints it.now) result }
 {
     match *due {
         Some(None) => (0, Some(0)),
-        _ => with_held(it.size_hint(), held.is_some()),
+        _ => with_held(it.size_hint(), held),
     }
 }
 
@@ -106,7 +106,7 @@ pub trait Stage<P, X, E> {
 
     /// The answer that was due, and what is due after it.
     fn answer_due(&self, due: Self::Due) -> AnswerAndDue<Self::Kept, Self::Due, E>
-        ensures { result ≡ (due_comes (rule.comes due), due_left due (rule.comes due)) };
+        ensures { result ≡ due_gives due (rule.comes due) };
 
     // So many answers are emitted and held; at a stop a stop is.
     ghost is_stage: { IsStage rule.comes (rule_meets rule) rule.most rule.held };

@@ -19,7 +19,7 @@ use Rattle.fallible_iterator.specs.Laws.Closures.{reaches_by_call_first, reaches
 use Rattle.fallible_iterator.proofs.Lemmas.Making.{lists_made_seen}
 use Rattle.fallible_itertools_adapters.specs.Adjacent.{AdjacentItems, HasKey, IsGroup}
 use Rattle.fallible_itertools_adapters.specs.Chunks.{BatchesOf, BatchesUpTo, Group, Grown, GrownTo, KeyedPut, MadeGroup, NoRoom, Put, Puts, SameHeld, batch_at, batch_by, batches_joined, chunk_by_contract, chunk_by_parts, chunk_by_plan, chunk_by_stops, chunked, chunked_by, chunks_contract, chunks_parts, chunks_plan, chunks_stops, group_at, group_by, group_kept, held_items, held_without_item, items_of_key, put_by_key, put_last, puts, puts_by_key, takes_key, vec_count}
-use Rattle.fallible_itertools_adapters.specs.Staging.{Emitted, IsTransition, MayMeet, Transition, as_function, before_stop, emitted_first, held_one, one_emitted, plan_can, plan_does, plan_item, plan_meets, staged, stop_comes}
+use Rattle.fallible_itertools_adapters.specs.Staging.{Emitted, IsTransition, MayMeet, Transition, as_function, before_stop, emitted_first, held_one, plan_can, plan_does, plan_item, plan_meets, staged, stop_comes}
 use Rattle.fallible_itertools_adapters.specs.Laws.Chunks.{group_by_buffers}
 use Rattle.fallible_itertools_adapters.proofs.Lemmas.Adjacent.{EachNext, HoldsOfNext, adjacent_items_of_each_next}
 use Rattle.fallible_itertools_adapters.proofs.Lemmas.Staging.{HeldMade, MadeAlike, PlansAlike, RefusalAfterHeld, before_stop_made, end_before_stop, gives_made_plan, parted_by_failure, plan_can_where_callable}
@@ -276,7 +276,7 @@ module _ {A E : Type 0} (from : AllocError → E → Type 0) where
   put_of_too_few n flag next held None x count grown few = absurd grown
   put_of_too_few n flag next held (Some w) x count (grown, is) few = (Ok w, grown, subst (λ b. IsTransition {E = E} (batch_at n w b) None (n, Some w)) (sym (lt-ltb (vec_count w) n (subst (λ k. k < n) is few))) (refl, refl))
 
-  pub put_of_whole : (n : ℕ) (flag next : Bool) (held left after : Option (Vec A Global)) (x : A) (count : ℕ) (whole : Vec A Global) (emitted : Emitted (Vec A Global) (Option E) E) → GrownTo held x left count → n ≤ count → left ≡ Some whole → emitted ≡ one_emitted (item whole) → after ≡ None → IsPut ((n, held), flag) x emitted ((n, after), next)
+  pub put_of_whole : (n : ℕ) (flag next : Bool) (held left after : Option (Vec A Global)) (x : A) (count : ℕ) (whole : Vec A Global) (emitted : Emitted (Vec A Global) (Option E) E) → GrownTo held x left count → n ≤ count → left ≡ Some whole → emitted ≡ Some (item whole, None) → after ≡ None → IsPut ((n, held), flag) x emitted ((n, after), next)
   put_of_whole n flag next held None after x count whole emitted grown full same is none = absurd grown
   put_of_whole n flag next held (Some w) after x count whole emitted (grown, counts) full same is none = let at : w ≡ whole = cc in (Ok w, grown, subst (λ b. IsTransition {E = E} (batch_at n w b) emitted (n, after)) (sym (le-ltb (vec_count w) n (subst (λ k. n ≤ k) counts full))) (rw (is, at) refl, rw none refl))
 
@@ -641,7 +641,7 @@ module _ {A K E : Type 0} (from : AllocError → E → Type 0) (eq : K → K →
   pub grouped_same_refused : (g : Group K A) (k : K) (x : A) (w : Vec A Global) (refused : AllocError) (e : E) (taken : Option (Group K A)) (emitted : Emitted (Group K A) (Option E) E) (q : Option (Group K A)) → eq g.0 k ≡ true → NoRoom (Some g.1) × (vec_items w ≡ vec_items g.1) → from refused e → taken ≡ Some (g.0, w) → emitted ≡ before_stop taken (Some e) → q ≡ None → IsGrouped (Some g) k x emitted q
   grouped_same_refused g k x w refused e taken emitted q is kept because at before none = (Err (Some w, e), subst (λ b. Puts from (cond b (Some g.1) None) x (Err (Some w, e))) (sym is) ((refused, because), kept.0, kept.1), (before ∙ ap (λ v. before_stop v (Some e)) at, none))
 
-  pub grouped_other : (g : Group K A) (k : K) (x : A) (w : Vec A Global) (whole : Group K A) (emitted : Emitted (Group K A) (Option E) E) (q : Option (Group K A)) → eq g.0 k ≡ false → Grown None x w → whole ≡ g → emitted ≡ one_emitted (item whole) → q ≡ Some (k, w) → IsGrouped (Some g) k x emitted q
+  pub grouped_other : (g : Group K A) (k : K) (x : A) (w : Vec A Global) (whole : Group K A) (emitted : Emitted (Group K A) (Option E) E) (q : Option (Group K A)) → eq g.0 k ≡ false → Grown None x w → whole ≡ g → emitted ≡ Some (item whole, None) → q ≡ Some (k, w) → IsGrouped (Some g) k x emitted q
   grouped_other g k x w whole emitted q is grown same yields then = (Ok w, subst (λ b. Puts from (cond b (Some g.1) None) x (Ok w)) (sym is) grown, subst (λ b. IsTransition (group_at g k w b) emitted q) (sym is) (rw (yields, same) refl, then))
 
   pub grouped_first : (k : K) (x : A) (w : Vec A Global) (q : Option (Group K A)) → Grown None x w → q ≡ Some (k, w) → IsGrouped None k x None q

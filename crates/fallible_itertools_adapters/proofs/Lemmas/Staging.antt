@@ -20,7 +20,7 @@ use Rattle.fallible_iterator.proofs.Lemmas.Folding.{drained_by_same_steps, holds
 use Rattle.fallible_iterator.proofs.Lemmas.Folds.{holds_at_first_turn, holds_each_turn_after_item, driven_by_item_first, driven_end, driven_failure, driven_of_first_break, fold_of_references_drives_values, names_kept}
 use Rattle.fallible_iterator.proofs.Lemmas.UntilRefused.{always_of_until_refused}
 use Rattle.fallible_itertools_adapters.specs.Adjacent.{AdjacentItems}
-use Rattle.fallible_itertools_adapters.specs.Staging.{DrawsUpTo, Emitted, yields, passes_over, due_comes, due_left, stage_meets, stage_step, stop_answer, MayMeet, TakesAll, IsStage, IsStop, EndsInStop, Told, DueTold, EmittedTold, DueTakes, EmittedTakes, Met, MetTakes, StageTurns, before_rest, due_first, emitted_first, staged, Follows, Transition, Plan, calls, makes, plan_meets, followed, plan_does, ends_come, before_stop, IsTransition, as_function, stop_comes, CanFollow, plan_can, plan_item, plan_takes, held_one, HintsPastFailure, hint_unless_end, HintBy, HintPlan}
+use Rattle.fallible_itertools_adapters.specs.Staging.{DrawsUpTo, Emitted, yields, passes_over, due_gives, stage_meets, stage_step, stop_answer, MayMeet, TakesAll, IsStage, IsStop, EndsInStop, Told, DueTold, EmittedTold, DueTakes, EmittedTakes, Met, MetTakes, StageTurns, before_rest, due_first, emitted_first, staged, Follows, Transition, Plan, calls, makes, plan_meets, followed, plan_does, ends_come, before_stop, IsTransition, as_function, stop_comes, CanFollow, plan_can, plan_item, plan_takes, held_one, HintsPastFailure, hint_unless_end}
 use Rattle.fallible_itertools_adapters.specs.Laws.Staging.{may_meet_of_answer, may_meet_before_draws, kept_where_reached, Always, ItemBuffers, NoEnd, always_weaken, failure_buffers, plan_hint}
 use Rattle.fallible_itertools_adapters.proofs.Lemmas.Adjacent.{EachNext, HoldsOfNext, adjacent_items_of_each_next}
 
@@ -64,16 +64,16 @@ module _ {S P X D B L E C R : Type 0} (comes : L → Option (Answered B E)) (mee
 
   driven_of_due_told_break : (s : S) (p : P) (due : Option L) (c : C) (told : Answered R E × Option L) (d : C) → DueTold turns comes c due (Break told) d → Driven Steps turns (s, (p, due)) c told.0 (s, (p, told.1)) d
   driven_of_due_told_break s p None c told d w = absurd (let e = w.0 in cc)
-  driven_of_due_told_break s p (Some later) c (why, left) d w = rw w.1 (driven_of_told_break Steps turns (s, (p, Some later)) (s, (p, due_left later (comes later))) (due_comes (comes later)) why c d (refl, refl, refl) w.0)
+  driven_of_due_told_break s p (Some later) c (why, left) d w = rw w.1 (driven_of_told_break Steps turns (s, (p, Some later)) (s, (p, (due_gives later (comes later)).1)) (due_gives later (comes later)).0 why c d (refl, refl, refl) w.0)
 
   -- a fold that went on after what was due: nothing is due then
-  none_due_left_where_told_continue : (later : L) (came : Option (Answered B E)) (c d : C) → Told {R = R} turns c (due_comes came) (Continue tt) d → due_left later came ≡ None
+  none_due_left_where_told_continue : (later : L) (came : Option (Answered B E)) (c d : C) → Told {R = R} turns c (due_gives later came).0 (Continue tt) d → (due_gives later came).1 ≡ None
   none_due_left_where_told_continue later (Some a) c d w = refl
   none_due_left_where_told_continue later None c d w = absurd w
 
   drives_on_after_due : (s : S) (p : P) (due : Option L) (c : C) (why : Answered R E) (k : C) (u : State) (z : C) → DueTold {R = R} turns comes c due (Continue tt) k → Driven Steps turns (s, (p, None)) k why u z → Driven Steps turns (s, (p, due)) c why u z
   drives_on_after_due s p None c why k u z w rest = (rw w.1 at rest)
-  drives_on_after_due s p (Some later) c why k u z w rest = drives_on_after_told Steps turns (s, (p, Some later)) (s, (p, None)) u (due_comes (comes later)) why c k z (refl, refl, ap (λ (l : Option L). (p, l)) (sym (none_due_left_where_told_continue later (comes later) c k w))) w rest
+  drives_on_after_due s p (Some later) c why k u z w rest = drives_on_after_told Steps turns (s, (p, Some later)) (s, (p, None)) u (due_gives later (comes later)).0 why c k z (refl, refl, ap (λ (l : Option L). (p, l)) (sym (none_due_left_where_told_continue later (comes later) c k w))) w rest
 
   driven_of_emitted_told_break : (s t : S) (p h : P) (a : Answered X D) (emitted : Emitted B L E) (c : C) (told : Answered R E × Option L) (d : C) → steps s a t → meets p a emitted h → EmittedTold turns comes c emitted (Break told) d → Driven Steps turns (s, (p, None)) c told.0 (t, (h, told.1)) d
   driven_of_emitted_told_break s t p h a None c told d step called w = absurd (let e = w.0 in cc)
@@ -91,11 +91,11 @@ module _ {S P X D B L E C R : Type 0} (comes : L → Option (Answered B E)) (mee
 
     holds_after_due : (s : S) (p : P) (due : Option L) (c k : C) → DueTold {R = R} turns comes c due (Continue tt) k → HoldsHere (s, (p, due)) c → HoldsHere (s, (p, None)) k
     holds_after_due s p None c k w h = rw w.1 h
-    holds_after_due s p (Some later) c k w h = holds_after_told Steps turns Q (s, (p, Some later)) (s, (p, None)) (due_comes (comes later)) c k (refl, refl, ap (λ (l : Option L). (p, l)) (sym (none_due_left_where_told_continue later (comes later) c k w))) w h
+    holds_after_due s p (Some later) c k w h = holds_after_told Steps turns Q (s, (p, Some later)) (s, (p, None)) (due_gives later (comes later)).0 c k (refl, refl, ap (λ (l : Option L). (p, l)) (sym (none_due_left_where_told_continue later (comes later) c k w))) w h
 
     due_is_taken : (s : S) (p : P) (due : Option L) (c : C) → HoldsHere (s, (p, due)) c → DueTakes {R = R} turns comes Q c due
     due_is_taken s p None c h = tt
-    due_is_taken s p (Some later) c h = told_item_is_taken Steps turns Q (s, (p, Some later)) (s, (p, due_left later (comes later))) (due_comes (comes later)) c (refl, refl, refl) h
+    due_is_taken s p (Some later) c h = told_item_is_taken Steps turns Q (s, (p, Some later)) (s, (p, (due_gives later (comes later)).1)) (due_gives later (comes later)).0 c (refl, refl, refl) h
 
     holds_after_emitted : (s t : S) (p h : P) (a : Answered X D) (emitted : Emitted B L E) (c k : C) → steps s a t → meets p a emitted h → EmittedTold {R = R} turns comes c emitted (Continue tt) k → HoldsHere (s, (p, None)) c → HoldsHere (t, (h, None)) k
     holds_after_emitted s t p h a None c k step called w holds = rw w.1 (holds_each_turn_by_same_steps (λ r v more. passes_over a step called more) holds)
@@ -257,7 +257,7 @@ module _ {B L E C R : Type 0} (comes : L → Option (Answered B E)) (turns : C �
   emitted_stop_never_told_to_continue : (emitted : Emitted B L E) (c d : C) → EndsInStop comes emitted → EmittedTold {R = R} turns comes c emitted (Continue tt) d → ⊥
   emitted_stop_never_told_to_continue None c d stop w = stop
   emitted_stop_never_told_to_continue (Some (a, None)) c d stop (inl w) = stop_never_told_to_continue a c w.0 stop w.1
-  emitted_stop_never_told_to_continue (Some (a, Some later)) c d stop (inl w) = stop_never_told_to_continue (due_comes (comes later)) w.0 d stop w.2
+  emitted_stop_never_told_to_continue (Some (a, Some later)) c d stop (inl w) = stop_never_told_to_continue (due_gives later (comes later)).0 w.0 d stop w.2
   emitted_stop_never_told_to_continue (Some (a, due)) c d stop (inr w) = let e = w.2 in absurd cc
 
   stop_answer_is_stop : (X : Type 0) {D : Type 0} (stop : Option D) → IsStop {B = X} (stop_answer stop)
@@ -293,7 +293,7 @@ module _ {L Y E : Type 0} (comes : L → Option (Answered Y E)) where
   -- an end is due; one is emitted
   abbrev EndDue : Option L → Type 0
   EndDue None = ⊥
-  EndDue (Some later) = due_comes (comes later) ≡ end
+  EndDue (Some later) = (due_gives later (comes later)).0 ≡ end
 
   abbrev pub EndEmitted : Emitted Y L E → Type 0
   EndEmitted None = ⊥
@@ -330,7 +330,7 @@ module _ {S P X Y B L E : Type 0} (steps : S → Answered X E → S → Type 0) 
 
   -- `At p a` says that the stage holds p as a says; `listed` says what is due, in the list.
   module _ {Q : Type 0} (listed : L → Option (Answered Y E)) (At : P → Q → Type 0) (does : Q → Answered X E → Emitted Y L E × Q)
-      (due_made : (later : L) → IsAnswerMade made (due_comes (listed later)) (due_comes (comes later)))
+      (due_made : (later : L) → IsAnswerMade made (due_gives later (listed later)).0 (due_gives later (comes later)).0)
       (acts : (p q : P) (a : Q) (y : Result X E) (m : Emitted B L E) → At p a → meets p (result_answer y) m q → RefusedAt q m ⊎ (At q (does a (result_answer y)).1 × IsMadeAs made (does a (result_answer y)).0 m))
       (ends : (p q : P) (a : Q) (m : Emitted B L E) → At p a → meets p end m q → EndEmitted listed (does a end).0 × IsMadeAs made (does a end).0 m)
       (never_nil : (p q : P) (a : Q) (y : Result X E) (l : List (Result X E)) (r : Answered B E) (due : Option L) (t : S) → At p a → meets p (result_answer y) (Some (r, due)) q → Refuses r (t, (q, due)) → staged listed does a (y ∷ l) ≡ [] → ⊥) where
@@ -339,7 +339,7 @@ module _ {S P X Y B L E : Type 0} (steps : S → Answered X E → S → Type 0) 
     first_before (Ok None) r t rest w g = w
     first_before (Err e) r t rest w g = inr (w, g (λ is. cc))
 
-    none_left : (later : L) (c : Option (Answered B E)) (a : Answered Y E) → IsAnswerMade made a (due_comes c) → (a ≡ end → ⊥) → due_left later c ≡ None
+    none_left : (later : L) (c : Option (Answered B E)) (a : Answered Y E) → IsAnswerMade made a (due_gives later c).0 → (a ≡ end → ⊥) → (due_gives later c).1 ≡ None
     none_left later (Some r) a w on = refl
     none_left later None (Ok (Some z)) w on = absurd w
     none_left later None (Ok None) w on = absurd (on refl)
@@ -347,7 +347,7 @@ module _ {S P X Y B L E : Type 0} (steps : S → Answered X E → S → Type 0) 
 
     gives_up_to_due_first : (due : Option L) (t : S) (q : P) (rest : List (Result Y E)) → ((EndDue listed due → ⊥) → GivesUpTo (t, (q, None)) rest) → GivesUpTo (t, (q, due)) (due_first listed due rest)
     gives_up_to_due_first None t q rest g = g (λ e. e)
-    gives_up_to_due_first (Some later) t q rest g = λ r u w. first_before (due_comes (listed later)) r u rest (subst (λ (z : Answered B E). IsAnswerMade made (due_comes (listed later)) z) (sym w.0) (due_made later)) (λ on. subst (λ (s : S). GivesUpTo (s, u.1) rest) (sym w.1) (subst (λ (k : P × Option L). GivesUpTo (t, k) rest) (sym (w.2 ∙ ap (λ (d : Option L). (q, d)) (none_left later (comes later) (due_comes (listed later)) (due_made later) on))) (g on)))
+    gives_up_to_due_first (Some later) t q rest g = λ r u w. first_before (due_gives later (listed later)).0 r u rest (subst (λ (z : Answered B E). IsAnswerMade made (due_gives later (listed later)).0 z) (sym w.0) (due_made later)) (λ on. subst (λ (s : S). GivesUpTo (s, u.1) rest) (sym w.1) (subst (λ (k : P × Option L). GivesUpTo (t, k) rest) (sym (w.2 ∙ ap (λ (d : Option L). (q, d)) (none_left later (comes later) (due_gives later (listed later)).0 (due_made later) on))) (g on)))
 
     first_of_emitted : (m : Emitted Y L E) (r : Answered B E) (due : Option L) (t : S) (q : P) (rest : List (Result Y E)) → IsMadeAs made m (Some (r, due)) → ((EndEmitted listed m → ⊥) → GivesUpTo (t, (q, None)) rest) → IsFirst (emitted_first listed m rest) r (t, (q, due))
     first_of_emitted None r due t q rest w g = absurd w
@@ -464,7 +464,7 @@ module _ {S F Z H Q R X B L E : Type 0} (steps : S → Answered X E → S → Ty
       | inr k ↦ (let s = same.1 (acts z q).0 w.0 k.0 in inr ((rw w.2.1 s.1, k.1), rw w.2.0 s.0))
     ]
 
-    module _ (agree : (h : H) (x : X) → MakesSame (plan h x)) (stop_agrees : (h : H) (stop : Option E) → IsMadeAs of (stops h stop).0 (stops h stop).0) (due_agrees : (later : L) → IsAnswerMade of (due_comes (comes later)) (due_comes (comes later))) (ends : (h : H) → EndEmitted comes (stops h None).0)
+    module _ (agree : (h : H) (x : X) → MakesSame (plan h x)) (stop_agrees : (h : H) (stop : Option E) → IsMadeAs of (stops h stop).0 (stops h stop).0) (due_agrees : (later : L) → IsAnswerMade of (due_gives later (comes later)).0 (due_gives later (comes later)).0) (ends : (h : H) → EndEmitted comes (stops h None).0)
         (never_nil : (h : H) (f : F) (z : Z) (y : Result X E) (l : List (Result X E)) (r : Answered B E) (due : Option L) (q : H × F) → plan_meets call plan stops (h, f) (result_answer y) (Some (r, due)) q → AnswersRefusal from r → list_of h z (y ∷ l) ≡ [] → ⊥) where
       acts_at : (h : H) (f : F) (z : Z) (a : Answered X E) (m : Emitted B L E) (q : H × F) → At f z → plan_meets call plan stops (h, f) a m q → ActsOrRefused (plan_does acts plan stops (h, z) a) m q
       acts_at h f z (Ok (Some x)) m q at w = follows_acts (plan h x) f z m q (agree h x) at w
@@ -499,7 +499,7 @@ module _ {S F Z H Q R X B L E : Type 0} (steps : S → Answered X E → S → Ty
 
     pub gives_plan : (l : List (Result X E)) (s : S) (h : H) (f : F) (z : Z) → At f z → AlwaysGives steps s l → AlwaysGives PlanSteps (s, ((h, f), None)) (list_of h z l)
     gives_plan l s h f z at g = always_of_until_refused PlanSteps (λ a e. ⊥) (λ e r. r.1) (list_of h z l) (s, ((h, f), None))
-        (gives_plan_until_refused (λ z y. y ≡ z) (λ a e. ⊥) At (λ w v. v ≡ w) (λ v. ⊥) (λ f z q v g at w. inr (does f z q v g at w)) (λ h x. makes_same (plan h x)) (λ h stop. made_as_itself (λ z y. y ≡ z) (λ y. refl) (stops h stop).0) (λ later. answer_made_of_itself (λ z y. y ≡ z) (λ y. refl) (due_comes (comes later))) ends (λ h f z y l r due q w no. absurd no.2.1) l s h f z at g)
+        (gives_plan_until_refused (λ z y. y ≡ z) (λ a e. ⊥) At (λ w v. v ≡ w) (λ v. ⊥) (λ f z q v g at w. inr (does f z q v g at w)) (λ h x. makes_same (plan h x)) (λ h stop. made_as_itself (λ z y. y ≡ z) (λ y. refl) (stops h stop).0) (λ later. answer_made_of_itself (λ z y. y ≡ z) (λ y. refl) (due_gives later (comes later)).0) ends (λ h f z y l r due q w no. absurd no.2.1) l s h f z at g)
 
 -- ---- What an adapter by functions lists where its answers are made of a list's, up to an allocation failure, at which what is held comes first
 
@@ -518,7 +518,7 @@ module _ {Y B : Type 0} (made : Y → B → Type 0) where
   before_stop_made (Some b) None stop w = absurd w
   before_stop_made (Some b) (Some y) stop w = (w, refl)
 
-  due_stop_made : {E : Type 0} (stop : Option E) → IsAnswerMade {E = E} made (due_comes (stop_comes stop)) (due_comes (stop_comes stop))
+  due_stop_made : {E : Type 0} (stop : Option E) → IsAnswerMade {E = E} made (due_gives stop (stop_comes stop)).0 (due_gives stop (stop_comes stop)).0
   due_stop_made None = refl
   due_stop_made (Some e) = refl
 
@@ -721,6 +721,6 @@ module _ {Q R H X B E : Type 0} (g : Q → R) (plan : H → X → Plan Q R (Tran
 -- ---- the hint where a failure is due
 
 -- Law: Where a failure is due, each hint of an adapter that buffers, whose hint is by `hint_unless_end`, is one of what comes after it.
-pub hints_past_failure : {S H F X B E : Type 0} (m : Contract S X E) (meets : H × F → Answered X E → Emitted B (Option E) E → H × F → Type 0) (hint : H → HintPlan) (s : S × ((H × F) × Option (Option E))) (e : E) → s.1.1 ≡ Some (Some e) → HintsPastFailure (stage_step stop_comes meets m.steps) (plan_hint m (λ h due. hint_unless_end (hint h) due)) s e
+pub hints_past_failure : {S H F X B E : Type 0} (m : Contract S X E) (meets : H × F → Answered X E → Emitted B (Option E) E → H × F → Type 0) (hint : H → ℕ × Option ℕ → ℕ × Option ℕ) (s : S × ((H × F) × Option (Option E))) (e : E) → s.1.1 ≡ Some (Some e) → HintsPastFailure (stage_step stop_comes meets m.steps) (plan_hint m (λ h due hints k. hint_unless_end (hint h) due hints k)) s e
 hints_past_failure {S = S} {H = H} {F = F} {E = E} m meets hint (s, (p, due)) e is t h step made = let w : stage_step stop_comes meets m.steps (s, (p, Some (Some e))) (Err e) t = subst (λ (d : Option (Option E)). stage_step stop_comes meets m.steps (s, (p, d)) (Err e) t) is step in
-    subst (λ (q : S × ((H × F) × Option (Option E))). HintBy m q.0 (hint_unless_end (hint q.1.0.0) q.1.1) h) (sym (ap (λ (z : S). (z, t.1)) w.1 ∙ ap (λ (z : (H × F) × Option (Option E)). (s, z)) w.2)) (subst (λ (d : Option (Option E)). HintBy m s (hint_unless_end (hint p.0) d) h) is made)
+    subst (λ (q : S × ((H × F) × Option (Option E))). hint_unless_end (hint q.1.0.0) q.1.1 (m.hints q.0) h) (sym (ap (λ (z : S). (z, t.1)) w.1 ∙ ap (λ (z : (H × F) × Option (Option E)). (s, z)) w.2)) (subst (λ (d : Option (Option E)). hint_unless_end (hint p.0) d (m.hints s) h) is made)

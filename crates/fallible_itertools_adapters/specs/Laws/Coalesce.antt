@@ -113,7 +113,7 @@ module _ {A : Type 0} (E : Type 0) where
 pub is_stage_count : {F A E : Type 0} (call : F → A × A → Result Bool E → F → Type 0) → IsStage stop_comes (plan_meets call count_plan count_stops) 1 (λ p. held_one p.0)
 is_stage_count {E = E} call = is_stage_buffering held_one call count_plan count_stops (count_buffers E) (count_stop_weighs E)
 
-counted_hold : {S F A E : Type 0} {m : Contract S A E} (call : F → A × A → Result Bool E → F → Type 0) → Lawful m → HintHolds m (buffering {F = F} {E = E} call (count_plan {A = A}) count_stops held_one (λ held. held_hint (held_one held)))
+counted_hold : {S F A E : Type 0} {m : Contract S A E} (call : F → A × A → Result Bool E → F → Type 0) → Lawful m → HintHolds m (buffering {F = F} {E = E} call (count_plan {A = A}) count_stops held_one held_hint)
 counted_hold {E = E} {m = m} call l = one_held_hold E (λ held. held) (λ held. None) held_one (λ held. refl) call count_plan (count_buffers E) m l.hold
 
 pub lawful_dedup_with_count : {S A E : Type 0} {m : Contract S A E} (eq : A → A → Bool) → Lawful m → Lawful (dedup_with_count_contract eq m)

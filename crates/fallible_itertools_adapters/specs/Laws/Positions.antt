@@ -11,7 +11,7 @@ use Rattle.fallible_iterator.specs.Laws.Hints.Joining.{if_some_fitting_sum_at_le
 use Rattle.fallible_iterator.specs.Laws.Hints.Passing.{upper_alone_hold}
 use Rattle.fallible_iterator.specs.Laws.Passing.{lawful_leaving_out}
 use Rattle.fallible_itertools_adapters.specs.Positions.{item_call, item_takes, positions_contract, positions_outcome, position_plan, position_stops, positioned_last, with_position_contract, position_rule}
-use Rattle.fallible_itertools_adapters.specs.Staging.{held_one, calls_nothing, plan_meets, IsStage, stop_comes, EndsInStop, emitted_total, items_of}
+use Rattle.fallible_itertools_adapters.specs.Staging.{held_one, calls_nothing, plan_meets, IsStage, stop_comes, EndsInStop, emitted_total}
 use Rattle.fallible_itertools_adapters.specs.Laws.Staging.{Always, EmittedFew, ItemBuffers, PlanMakes, StopWeighs, before_stop_weighs, held_hold, is_stage_buffering, HintHolds, lawful_rule}
 
 -- ---- The contract of `Positions` is lawful where the source's is
@@ -36,11 +36,11 @@ is_stage_position {E = E} = is_stage_buffering held_one calls_nothing position_p
 -- ---- where its hint is sound
 
 module _ (A E : Type 0) where
-  position_at_most : (held : Option (Bool × A)) (x : A) (n : ℕ) → Always (λ t. emitted_total {E = E} stop_comes items_of t.0 + (n + held_one t.1) ≤ suc n + held_one held) (position_plan held x)
+  position_at_most : (held : Option (Bool × A)) (x : A) (n : ℕ) → Always (λ t. emitted_total {E = E} stop_comes 0 t.0 + (n + held_one t.1) ≤ suc n + held_one held) (position_plan held x)
   position_at_most None x n = omega arith
   position_at_most (Some p) x n = omega arith
 
-  position_at_most_at_stop : (held : Option (Bool × A)) (stop : Option E) → (emitted_total stop_comes items_of (position_stops held stop).0 ≤ 0 + held_one held) × EndsInStop stop_comes (position_stops held stop).0
+  position_at_most_at_stop : (held : Option (Bool × A)) (stop : Option E) → (emitted_total stop_comes 0 (position_stops held stop).0 ≤ 0 + held_one held) × EndsInStop stop_comes (position_stops held stop).0
   position_at_most_at_stop None None = (omega arith, tt)
   position_at_most_at_stop None (Some e) = (omega arith, tt)
   position_at_most_at_stop (Some p) None = (omega arith, tt)

@@ -15,7 +15,7 @@ use Rattle.fallible_iterator.specs.Laws.Contract.{kept_by_draws_of_one_draw, kep
 use Rattle.fallible_iterator.specs.Laws.Hints.Drawn.{brackets_any_lower_where_no_end, brackets_zero_where_no_item, if_some_at_least_of_smaller}
 use Rattle.fallible_iterator.specs.Laws.Hints.Joining.{if_some_fitting_sum_at_least_both}
 use Rattle.fallible_iterator.specs.Laws.LawForm.{IsTraced}
-use Rattle.fallible_itertools_adapters.specs.Staging.{DrawsUpTo, Emits, Emitted, StagedTrace, due_comes, due_left, emits_due, emits_later, emits_first, emits_nothing, passes_over, stage_step, yields, items_of, stays_of, due_total, emitted_total, IsStage, IsDue, IsEmitted, MayMeet, MayCome, EndsInStop, IsStop, stop_comes, before_stop, held_one, Follows, HintPlan, IsTransition, Transition, Plan, bounded, calls, makes, passes, Rule, rule_contract, rule_meets, plan_meets, plan_takes, HintBy, hint_unless_end, held_hint, stop_answer}
+use Rattle.fallible_itertools_adapters.specs.Staging.{DrawsUpTo, Emits, Emitted, StagedTrace, due_gives, emits_due, emits_later, emits_first, emits_nothing, passes_over, stage_step, yields, weight, due_total, emitted_total, IsStage, IsDue, IsEmitted, MayMeet, MayCome, EndsInStop, IsStop, stop_comes, before_stop, held_one, Follows, IsTransition, Transition, Plan, bounded, calls, makes, passes, Rule, rule_contract, rule_meets, plan_meets, plan_takes, hint_unless_end, stop_answer}
 
 -- ---- The runs of a stage are its traces: one law of all stages, over what the source's law says
 
@@ -30,12 +30,12 @@ module _ {S P X D B L E : Type 0} (comes : L → Option (Answered B E)) (meets :
   drawn_then q rest s t h r _ (yields {q = g} {due = due} a step called) w = record { draws = (a, Some (r, due)) ∷ w.draws; drawn = (t, step, w.drawn); met = (g, called, w.met); emitted = emits_first a r w.emitted }
   drawn_then q rest s t h r k (passes_over {u = u} {h = g} a step called more) w = let v = drawn_then q rest u t g r k more w in record { draws = (a, None) ∷ v.draws; drawn = (u, step, v.drawn); met = (g, called, v.met); emitted = emits_later a v.emitted }
 
-  due_then : (s : S) (h : P) (later : L) (rest : List (Answered B E)) (q : State) → TraceHere (s, (h, due_left later (comes later))) rest q → TraceHere (s, (h, Some later)) (due_comes (comes later) ∷ rest) q
+  due_then : (s : S) (h : P) (later : L) (rest : List (Answered B E)) (q : State) → TraceHere (s, (h, (due_gives later (comes later)).1)) rest q → TraceHere (s, (h, Some later)) ((due_gives later (comes later)).0 ∷ rest) q
   due_then s h later rest q v = record { draws = v.draws; drawn = v.drawn; met = v.met; emitted = emits_due later v.emitted }
 
   step_then : (p u q : State) (r : Answered B E) (rest : List (Answered B E)) → stage_step comes meets steps p r u → TraceHere u rest q → TraceHere p (r ∷ rest) q
   step_then (s, (h, None)) (t, k) q r rest step w = drawn_then q rest s t h r k step w
-  step_then (s, (h, Some later)) (t, k) q r rest step w = rw step.0 (due_then s h later rest q (subst (λ (v : S). TraceHere (v, (h, due_left later (comes later))) rest q) step.1 (subst (λ (d : P × Option L). TraceHere (t, d) rest q) step.2 w)))
+  step_then (s, (h, Some later)) (t, k) q r rest step w = rw step.0 (due_then s h later rest q (subst (λ (v : S). TraceHere (v, (h, (due_gives later (comes later)).1)) rest q) step.1 (subst (λ (d : P × Option L). TraceHere (t, d) rest q) step.2 w)))
 
   trace_of_run : (trace : List (Answered B E)) (p q : State) → Run (stage_step comes meets steps) p trace q → TraceHere p trace q
   trace_of_run [] p q ran = rw (sym ran) (record { draws = []; drawn = refl; met = refl; emitted = emits_nothing })
@@ -43,7 +43,7 @@ module _ {S P X D B L E : Type 0} (comes : L → Option (Answered B E)) (meets :
 
   run_of_draws : (draws : List (Answered X D × Emitted B L E)) (s t : S) (h k : P) (due after : Option L) (trace : List (Answered B E)) → Run steps s (map (λ d. d.0) draws) t → FoldsTo (λ h d k. meets h d.0 d.1 k) h draws k → Emits comes due draws trace after → Run (stage_step comes meets steps) (s, (h, due)) trace (t, (k, after))
   run_of_draws _ s t h k due _ _ ran met emits_nothing = rw (sym ran, sym met) refl
-  run_of_draws draws s t h k _ after _ ran met (emits_due {trace = rest} later e) = ((s, (h, due_left later (comes later))), (refl, refl, refl), run_of_draws draws s t h k (due_left later (comes later)) after rest ran met e)
+  run_of_draws draws s t h k _ after _ ran met (emits_due {trace = rest} later e) = ((s, (h, (due_gives later (comes later)).1)), (refl, refl, refl), run_of_draws draws s t h k (due_gives later (comes later)).1 after rest ran met e)
   run_of_draws _ s t h k _ after _ ran met (emits_first {due = due} {draws = draws} {trace = rest} x a e) = ((ran.0, (met.0, due)), yields x ran.1 met.1, run_of_draws draws ran.0 t met.0 k due after rest ran.2 met.2 e)
   run_of_draws _ s t h k _ after _ ran met (emits_later {draws = draws} {r = r} {trace = rest} x e) = let more = run_of_draws draws ran.0 t met.0 k None after (r ∷ rest) ran.2 met.2 e in (more.0, passes_over x ran.1 met.1 more.1, more.2)
 
@@ -71,12 +71,12 @@ module _ {S X D : Type 0} (m : Contract S X D) where
   may_meet_before_draws s t k (Ok None) h = tt
   may_meet_before_draws s t k (Err e) h = k.may_fail e h
 
-  bound_after : (s t : S) (a : Answered X D) → OnAnswer m s a t → (n : ℕ) → m.bound s n → (k : ℕ) × m.bound t k × (k + items_of a ≤ n)
+  bound_after : (s t : S) (a : Answered X D) → OnAnswer m s a t → (n : ℕ) → m.bound s n → (k : ℕ) × m.bound t k × (k + weight 0 a ≤ n)
   bound_after s t (Ok (Some x)) h n b = let k = h.1 n b in (k.0, k.1, omega (arith, k.2))
   bound_after s t (Ok None) h n b = let k = h.0 n b in (k.0, k.1, omega (arith, k.2))
   bound_after s t (Err e) h n b = let k = h.1 n b in (k.0, k.1, omega (arith, k.2))
 
-  remaining_finite_and_fewer_after_answer : (s t : S) (a : Answered X D) → OnAnswer m s a t → IsFinite (m.remaining s) → IsFinite (m.remaining t) × (size (m.remaining t) + stays_of a ≤ size (m.remaining s))
+  remaining_finite_and_fewer_after_answer : (s t : S) (a : Answered X D) → OnAnswer m s a t → IsFinite (m.remaining s) → IsFinite (m.remaining t) × (size (m.remaining t) + weight 1 a ≤ size (m.remaining s))
   remaining_finite_and_fewer_after_answer s t (Ok (Some x)) h f = let k = h.2 f in (k.0, omega (arith, k.1))
   remaining_finite_and_fewer_after_answer s t (Ok None) h f = let k = h.1 f in (k.0, omega (arith, k.1))
   remaining_finite_and_fewer_after_answer s t (Err e) h f = let k = h.2 f in (k.0, omega (arith, k.1))
@@ -88,17 +88,17 @@ pub parts_equal_where_emitted_equal : {B L E : Type 0} {r a : Answered B E} {due
 parts_equal_where_emitted_equal {B = B} {L = L} {E = E} {r = r} {a = a} {due = due} {later = later} e = let same : ◌≡◌ {A = Answered B E × Option L} (r, due) (a, later) = cc in (ap (λ p. p.0) same, ap (λ p. p.1) same)
 
 module _ {L B E : Type 0} (comes : L → Option (Answered B E)) where
-  pub due_total_of_due_left_is_zero : (later : L) (c : Option (Answered B E)) → comes later ≡ c → (due_total comes items_of (due_left later c) ≡ 0) × (due_total comes stays_of (due_left later c) ≡ 0)
+  pub due_total_of_due_left_is_zero : (later : L) (c : Option (Answered B E)) → comes later ≡ c → (due_total comes 0 (due_gives later c).1 ≡ 0) × (due_total comes 1 (due_gives later c).1 ≡ 0)
   due_total_of_due_left_is_zero later (Some a) is = (refl, refl)
   due_total_of_due_left_is_zero later None is = rw is (refl, refl)
 
-  is_due_before_where_due_left : (later : L) (r : Answered B E) (c : Option (Answered B E)) → IsDue comes r (due_left later c) → IsDue comes r (Some later)
+  is_due_before_where_due_left : (later : L) (r : Answered B E) (c : Option (Answered B E)) → IsDue comes r (due_gives later c).1 → IsDue comes r (Some later)
   is_due_before_where_due_left later r (Some a) d = absurd d
   is_due_before_where_due_left later r None d = d
 
 -- The hint of a stage is sound where its rule says so.
 abbrev pub HintHolds : {S P X B L E : Type 0} → Contract S X E → Rule P X B L E → Type 0
-HintHolds {S = S} m rule = HintsHold (λ p r q. stage_step rule.comes (rule_meets rule) m.steps p r q) (λ p h. HintBy m p.0 (rule.hint p.1.0 p.1.1) h) (rule.sound S m)
+HintHolds {S = S} m rule = HintsHold (λ p r q. stage_step rule.comes (rule_meets rule) m.steps p r q) (λ p h. rule.hint p.1.0 p.1.1 (m.hints p.0) h) (rule.sound S m)
 
 -- What may be called stays so, on fewer answers, in each state that these bring it to.
 abbrev pub CanStays : {P X B L E : Type 0} → Rule P X B L E → Type 1
@@ -116,10 +116,10 @@ module _ {S P X B L E : Type 0} {m : Contract S X E} (l : Lawful m) (rule : Rule
     bound : (n : ℕ) → m.bound s n → (k : ℕ) × m.bound t k × (rule.most * k + rule.held q + i ≤ rule.most * n + rule.held p)
     remaining : IsFinite (m.remaining s) → IsFinite (m.remaining t) × (rule.most * size (m.remaining t) + rule.held q + j ≤ rule.most * size (m.remaining s) + rule.held p)
 
-  spends_emitted_total_where_met : (s t : S) (p q : P) (a : Answered X E) (emitted : Emitted B L E) → OnAnswer m s a t → (rule_meets rule) p a emitted q → Spends (emitted_total rule.comes items_of emitted) (emitted_total rule.comes stays_of emitted) s p t q
+  spends_emitted_total_where_met : (s t : S) (p q : P) (a : Answered X E) (emitted : Emitted B L E) → OnAnswer m s a t → (rule_meets rule) p a emitted q → Spends (emitted_total rule.comes 0 emitted) (emitted_total rule.comes 1 emitted) s p t q
   spends_emitted_total_where_met s t p q a emitted h called = record {
-    bound = λ n b. let k = bound_after m s t a h n b in (k.0, k.1, omega (arith, scaled_parts_within_scaled_whole rule.most k.0 (items_of a) n k.2, (w p a emitted q called).0));
-    remaining = λ f. let k = remaining_finite_and_fewer_after_answer m s t a h f in (k.0, omega (arith, scaled_parts_within_scaled_whole rule.most (size (m.remaining t)) (stays_of a) (size (m.remaining s)) k.1, (w p a emitted q called).1));
+    bound = λ n b. let k = bound_after m s t a h n b in (k.0, k.1, omega (arith, scaled_parts_within_scaled_whole rule.most k.0 (weight 0 a) n k.2, (w p a emitted q called).0));
+    remaining = λ f. let k = remaining_finite_and_fewer_after_answer m s t a h f in (k.0, omega (arith, scaled_parts_within_scaled_whole rule.most (size (m.remaining t)) (weight 1 a) (size (m.remaining s)) k.1, (w p a emitted q called).1));
   }
 
   spends_transitive : (i j : ℕ) (s u t : S) (p h q : P) → Spends 0 0 s p u h → Spends i j u h t q → Spends i j s p t q
@@ -133,7 +133,7 @@ module _ {S P X B L E : Type 0} {m : Contract S X E} (l : Lawful m) (rule : Rule
   record Came (s : S) (p : P) (r : Answered B E) (t : S) (q : P × Option L) : Type 0 where
     kept : KeptByDraws m s t
     reached : Reaches (rule_meets rule) (MayMeet m s) p q.0
-    spends : Spends (items_of r + due_total rule.comes items_of q.1) (stays_of r + due_total rule.comes stays_of q.1) s p t q.0
+    spends : Spends (weight 0 r + due_total rule.comes 0 q.1) (weight 1 r + due_total rule.comes 1 q.1) s p t q.0
     may : (z : Answered B E) → IsEmitted rule.comes z (Some (r, q.1)) → MayAnswer (rule_meets rule) (MayMeet m s) p (λ a emitted. IsEmitted rule.comes z emitted)
 
   came_of_draws : (s t : S) (p : P) (r : Answered B E) (q : P × Option L) → m.can_next s → DrawsUpTo rule.comes (rule_meets rule) m.steps s p r t q → Came s p r t q
@@ -154,8 +154,8 @@ module _ {S P X B L E : Type 0} {m : Contract S X E} (l : Lawful m) (rule : Rule
   -- ---- one answer
 
   record Leaves (p : StageState) (r : Answered B E) (q : StageState) : Type 0 where
-    bound : (n : ℕ) → StageContract.bound p n → (k : ℕ) × StageContract.bound q k × (k + items_of r ≤ n)
-    remaining : IsFinite (StageContract.remaining p) → IsFinite (StageContract.remaining q) × (size (StageContract.remaining q) + stays_of r ≤ size (StageContract.remaining p))
+    bound : (n : ℕ) → StageContract.bound p n → (k : ℕ) × StageContract.bound q k × (k + weight 0 r ≤ n)
+    remaining : IsFinite (StageContract.remaining p) → IsFinite (StageContract.remaining q) × (size (StageContract.remaining q) + weight 1 r ≤ size (StageContract.remaining p))
 
   on_answer_where_leaves : (p q : StageState) (r : Answered B E) → MayCome m rule.comes (rule_meets rule) p r → Leaves p r q → OnAnswer StageContract p r q
   on_answer_where_leaves p q (Ok (Some y)) may k = (may, (λ n b. let e = k.bound n b in (e.0, e.1, omega (arith, e.2))), (λ f. let e = k.remaining f in (e.0, omega (arith, e.1))))
@@ -167,7 +167,7 @@ module _ {S P X B L E : Type 0} {m : Contract S X E} (l : Lawful m) (rule : Rule
     can_next = (k.kept.can_next, stays (MayMeet m s) (MayMeet m t) p q.0 (may_meet_before_draws m s t k.kept) k.reached c.1);
     is_finite = k.kept.is_finite;
     answer = on_answer_where_leaves (s, (p, None)) (t, q) r (inr (k.may r (inl refl))) (record {
-      bound = λ n b. let e = k.spends.bound b.0 b.1 in (rule.most * e.0 + rule.held q.0 + due_total rule.comes items_of q.1, (e.0, e.1, omega arith), omega (arith, e.2, b.2));
+      bound = λ n b. let e = k.spends.bound b.0 b.1 in (rule.most * e.0 + rule.held q.0 + due_total rule.comes 0 q.1, (e.0, e.1, omega arith), omega (arith, e.2, b.2));
       remaining = λ f. let e = k.spends.remaining f in (e.0, omega (arith, e.1));
     });
     may_give = λ y h. may_come_before_where_may_come_after (item y) h;
@@ -178,11 +178,11 @@ module _ {S P X B L E : Type 0} {m : Contract S X E} (l : Lawful m) (rule : Rule
       may_come_before_where_may_come_after : (z : Answered B E) → MayCome m rule.comes (rule_meets rule) (t, q) z → MayCome m rule.comes (rule_meets rule) (s, (p, None)) z
       may_come_before_where_may_come_after z h = inr (elim h [ inl d ↦ k.may z (inr d) | inr d ↦ may_answer_where_reached_may_answer (may_meet_before_draws m s t k.kept) k.reached d ])
 
-  kept_by_draw_due : (s : S) (p : P) (later : L) → StageContract.can_next (s, (p, Some later)) → KeptByDraw StageContract (s, (p, Some later)) (due_comes (rule.comes later)) (s, (p, due_left later (rule.comes later)))
+  kept_by_draw_due : (s : S) (p : P) (later : L) → StageContract.can_next (s, (p, Some later)) → KeptByDraw StageContract (s, (p, Some later)) (due_gives later (rule.comes later)).0 (s, (p, (due_gives later (rule.comes later)).1))
   kept_by_draw_due s p later c = let none = due_total_of_due_left_is_zero rule.comes later (rule.comes later) refl in record {
     can_next = c;
     is_finite = λ e. e;
-    answer = on_answer_where_leaves (s, (p, Some later)) (s, (p, due_left later (rule.comes later))) (due_comes (rule.comes later)) (inl refl) (record {
+    answer = on_answer_where_leaves (s, (p, Some later)) (s, (p, (due_gives later (rule.comes later)).1)) (due_gives later (rule.comes later)).0 (inl refl) (record {
       bound = λ n b. (rule.most * b.0 + rule.held p, (b.0, b.1, omega (arith, none.0)), omega (arith, b.2));
       remaining = λ f. (f, omega (arith, none.1));
     });
@@ -198,7 +198,7 @@ module _ {S P X B L E : Type 0} {m : Contract S X E} (l : Lawful m) (rule : Rule
   pub lawful_rule : HintHolds m rule → Lawful (rule_contract m rule)
   lawful_rule holds = record {
     kept_by_draw = kept_by_draw_stage;
-    bounded = λ p. ((λ e. let k = (l.bounded p.0).0 e in (rule.most * k.0 + rule.held p.1.0 + due_total rule.comes items_of p.1.1, (k.0, k.1, omega arith))), (λ h. (l.bounded p.0).1 ((h.1).0, (h.1).1)));
+    bounded = λ p. ((λ e. let k = (l.bounded p.0).0 e in (rule.most * k.0 + rule.held p.1.0 + due_total rule.comes 0 p.1.1, (k.0, k.1, omega arith))), (λ h. (l.bounded p.0).1 ((h.1).0, (h.1).1)));
     traced = stage_traced rule.comes (rule_meets rule) m.steps l.traced;
     hold = holds;
   }
@@ -225,7 +225,7 @@ module _ {B L E : Type 0} (comes : L → Option (Answered B E)) where
 
   abbrev pub DueFew : Option L → (ℕ → Type 0) → (ℕ → Type 0) → Type 0
   DueFew None after before = (n : ℕ) → after n → before n
-  DueFew (Some later) after before = AnswerFew (due_comes (comes later)) after before
+  DueFew (Some later) after before = AnswerFew (due_gives later (comes later)).0 after before
 
   abbrev pub EmittedFew : Emitted B L E → (ℕ → Type 0) → (ℕ → Type 0) → Type 0
   EmittedFew None after before = (n : ℕ) → after n → before n
@@ -236,9 +236,9 @@ module _ {B L E : Type 0} (comes : L → Option (Answered B E)) where
 -- what is due is a stop
 abbrev pub StopIsDue : {B L E : Type 0} → (L → Option (Answered B E)) → Option L → Type 0
 StopIsDue comes None = ⊥
-StopIsDue comes (Some later) = IsStop (due_comes (comes later))
+StopIsDue comes (Some later) = IsStop (due_gives later (comes later)).0
 
-pub no_items_of_stop : {X E : Type 0} (a : Answered X E) → IsStop a → items_of a ≡ 0
+pub no_items_of_stop : {X E : Type 0} (a : Answered X E) → IsStop a → weight 0 a ≡ 0
 no_items_of_stop (Ok (Some x)) stop = absurd stop
 no_items_of_stop (Ok None) stop = refl
 no_items_of_stop (Err e) stop = refl
@@ -246,8 +246,8 @@ no_items_of_stop (Err e) stop = refl
 module _ {P X B L E : Type 0} (comes : L → Option (Answered B E)) (meets : P → Answered X E → Emitted B L E → P → Type 0) where
   -- At most `most p n` items come of n items of the source, if p is held; at a stop a stop comes.
   pub record MakesAtMost (most : P → ℕ → ℕ) : Type 0 where
-    pub at_item : (p : P) (x : X) (m : Emitted B L E) (q : P) (n : ℕ) → meets p (item x) m q → emitted_total comes items_of m + most q n ≤ most p (suc n)
-    pub at_stop : (p : P) (a : Answered X E) (m : Emitted B L E) (q : P) → IsStop a → meets p a m q → (emitted_total comes items_of m ≤ most p 0) × EndsInStop comes m
+    pub at_item : (p : P) (x : X) (m : Emitted B L E) (q : P) (n : ℕ) → meets p (item x) m q → emitted_total comes 0 m + most q n ≤ most p (suc n)
+    pub at_stop : (p : P) (a : Answered X E) (m : Emitted B L E) (q : P) → IsStop a → meets p a m q → (emitted_total comes 0 m ≤ most p 0) × EndsInStop comes m
 
   -- `Few p low n` holds of each number n of items that come before an end, if p is held and at least `low` come of the source.
   pub record MakesNoFewer (Few : P → ℕ → ℕ → Type 0) : Type 0 where
@@ -280,10 +280,10 @@ module _ {S P X B L E : Type 0} (steps : S → Answered X E → S → Type 0) (c
     no_item_after_due_stop y (Some later) [] s q t stop ran = refl
     no_item_after_due_stop y (Some later) (z ∷ ys) s q t stop ran = absurd (rw (sym ran.1.0) at stop)
 
-    drawn_where_emitted_ends_in_stop : (y : B) (due : Option L) (ys : List B) (s v : S) (p q : P) (t : HintState) → (emitted_total comes items_of (Some (item y, due)) ≤ most p 0) × EndsInStop comes (Some (item y, due)) → Yields HintSteps (v, (q, due)) ys t → Drawn s p (length ys + 1)
+    drawn_where_emitted_ends_in_stop : (y : B) (due : Option L) (ys : List B) (s v : S) (p q : P) (t : HintState) → (emitted_total comes 0 (Some (item y, due)) ≤ most p 0) × EndsInStop comes (Some (item y, due)) → Yields HintSteps (v, (q, due)) ys t → Drawn s p (length ys + 1)
     drawn_where_emitted_ends_in_stop y due ys s v p q t few ran = let none = no_item_after_due_stop y due ys v q t few.1 ran in ([], s, refl, omega (arith, few.0, none))
 
-    drawn_where_first_makes_item : (a : Answered X E) (y : B) (due : Option L) (ys : List B) (s v : S) (p q : P) (t : HintState) → steps s a v → meets p a (Some (item y, due)) q → Yields HintSteps (v, (q, due)) ys t → ((xs : List X) × (u : S) × Yields steps v xs u × (length ys ≤ due_total comes items_of due + most q (length xs))) → Drawn s p (length ys + 1)
+    drawn_where_first_makes_item : (a : Answered X E) (y : B) (due : Option L) (ys : List B) (s v : S) (p q : P) (t : HintState) → steps s a v → meets p a (Some (item y, due)) q → Yields HintSteps (v, (q, due)) ys t → ((xs : List X) × (u : S) × Yields steps v xs u × (length ys ≤ due_total comes 0 due + most q (length xs))) → Drawn s p (length ys + 1)
     drawn_where_first_makes_item (Ok (Some x)) y due ys s v p q t step called ran k = let few = makes.at_item p x (Some (item y, due)) q (length k.0) called in (x ∷ k.0, k.1, (v, step, k.2), omega (arith, few, k.3))
     drawn_where_first_makes_item (Ok None) y due ys s v p q t step called ran k = drawn_where_emitted_ends_in_stop y due ys s v p q t (makes.at_stop p end (Some (item y, due)) q tt called) ran
     drawn_where_first_makes_item (Err e) y due ys s v p q t step called ran k = drawn_where_emitted_ends_in_stop y due ys s v p q t (makes.at_stop p (failure e) (Some (item y, due)) q tt called) ran
@@ -293,20 +293,20 @@ module _ {S P X B L E : Type 0} (steps : S → Answered X E → S → Type 0) (c
     drawn_where_first_makes_none (Ok None) s u p h n step called k = absurd (makes.at_stop p end None h tt called).1
     drawn_where_first_makes_none (Err e) s u p h n step called k = absurd (makes.at_stop p (failure e) None h tt called).1
 
-    drawn_where_draws_up_to_item : (y : B) (r : Answered B E) (ys : List B) (s v : S) (p : P) (q : P × Option L) (t : HintState) → r ≡ item y → DrawsUpTo comes meets steps s p r v q → Yields HintSteps (v, q) ys t → ((xs : List X) × (u : S) × Yields steps v xs u × (length ys ≤ due_total comes items_of q.1 + most q.0 (length xs))) → Drawn s p (length ys + 1)
+    drawn_where_draws_up_to_item : (y : B) (r : Answered B E) (ys : List B) (s v : S) (p : P) (q : P × Option L) (t : HintState) → r ≡ item y → DrawsUpTo comes meets steps s p r v q → Yields HintSteps (v, q) ys t → ((xs : List X) × (u : S) × Yields steps v xs u × (length ys ≤ due_total comes 0 q.1 + most q.0 (length xs))) → Drawn s p (length ys + 1)
     drawn_where_draws_up_to_item y r ys s v p _ t is (yields {q = q} {due = due} a step called) ran k = drawn_where_first_makes_item a y due ys s v p q t step (rw is at called) ran k
     drawn_where_draws_up_to_item y r ys s v p q t is (passes_over {u = u} {h = h} a step called rest) ran k = drawn_where_first_makes_none a s u p h (length ys + 1) step called (drawn_where_draws_up_to_item y r ys u v h q t is rest ran k)
 
     -- items of the source of which the items of a run come
-    length_bounded_by_source_items : (ys : List B) (s : S) (p : P) (due : Option L) (t : HintState) → Yields HintSteps (s, (p, due)) ys t → (xs : List X) × (u : S) × Yields steps s xs u × (length ys ≤ due_total comes items_of due + most p (length xs))
+    length_bounded_by_source_items : (ys : List B) (s : S) (p : P) (due : Option L) (t : HintState) → Yields HintSteps (s, (p, due)) ys t → (xs : List X) × (u : S) × Yields steps s xs u × (length ys ≤ due_total comes 0 due + most p (length xs))
     length_bounded_by_source_items [] s p due t ran = ([], s, refl, omega arith)
     length_bounded_by_source_items (y ∷ ys) s p None t ran = let v = ran.0 in let k = drawn_where_draws_up_to_item y (item y) ys s v.0 p v.1 t refl ran.1 ran.2 (length_bounded_by_source_items ys v.0 v.1.0 v.1.1 t ran.2) in (k.0, k.1, k.2, omega (arith, k.3))
-    length_bounded_by_source_items (y ∷ ys) s p (Some later) t ran = let w = ran.1 in let k = length_bounded_by_source_items ys s p (due_left later (comes later)) t (subst (λ (z : S). Yields HintSteps (z, (p, due_left later (comes later))) ys t) w.1 (subst (λ (z : P × Option L). Yields HintSteps (ran.0.0, z) ys t) w.2 ran.2)) in
-        let none = due_total_of_due_left_is_zero comes later (comes later) refl in let one : items_of (due_comes (comes later)) ≡ 1 = ap items_of (sym w.0) in (k.0, k.1, k.2, omega (arith, k.3, none.0, one))
+    length_bounded_by_source_items (y ∷ ys) s p (Some later) t ran = let w = ran.1 in let k = length_bounded_by_source_items ys s p (due_gives later (comes later)).1 t (subst (λ (z : S). Yields HintSteps (z, (p, (due_gives later (comes later)).1)) ys t) w.1 (subst (λ (z : P × Option L). Yields HintSteps (ran.0.0, z) ys t) w.2 ran.2)) in
+        let none = due_total_of_due_left_is_zero comes later (comes later) refl in let one : weight 0 (due_gives later (comes later)).0 ≡ 1 = ap (weight 0) (sym w.0) in (k.0, k.1, k.2, omega (arith, k.3, none.0, one))
 
     -- A bound of the source bounds what comes of it and of what is due.
-    pub bounds_above_staged : (k o : Option ℕ) (s : S) (p : P) (due : Option L) → ((n : ℕ) → IfSome k (λ j. n ≤ j) → IfSome o (λ j. due_total comes items_of due + most p n ≤ j)) → BoundsAbove steps s k → BoundsAbove HintSteps (s, (p, due)) o
-    bounds_above_staged k o s p due more above = λ ys t ran. let d = length_bounded_by_source_items ys s p due t ran in if_some_at_least_of_smaller o (length ys) (due_total comes items_of due + most p (length d.0)) d.3 (more (length d.0) (above d.0 d.1 d.2))
+    pub bounds_above_staged : (k o : Option ℕ) (s : S) (p : P) (due : Option L) → ((n : ℕ) → IfSome k (λ j. n ≤ j) → IfSome o (λ j. due_total comes 0 due + most p n ≤ j)) → BoundsAbove steps s k → BoundsAbove HintSteps (s, (p, due)) o
+    bounds_above_staged k o s p due more above = λ ys t ran. let d = length_bounded_by_source_items ys s p due t ran in if_some_at_least_of_smaller o (length ys) (due_total comes 0 due + most p (length d.0)) d.3 (more (length d.0) (above d.0 d.1 d.2))
 
   -- ---- below
 
@@ -324,7 +324,7 @@ module _ {S P X B L E : Type 0} (steps : S → Answered X E → S → Type 0) (c
     few_at_item_drawn y n s t p r _ low is (yields {q = q} {due = due} a step called) b then = let k = lower_bound_after_answer a s t p q (Some (item y, due)) low step b (rw is at called) in then k.0 (λ i. Few p low (suc i)) k.1 k.2
     few_at_item_drawn y n s t p r q low is (passes_over {u = u} {h = h} a step called rest) b then = let k = lower_bound_after_answer a s u p h None low step b called in k.2 (suc n) (few_at_item_drawn y n u t h r q k.0 is rest k.1 then)
 
-    none_due_left_where_item_comes : (later : L) (c : Option (Answered B E)) (y : B) → item y ≡ due_comes c → due_left later c ≡ None
+    none_due_left_where_item_comes : (later : L) (c : Option (Answered B E)) (y : B) → item y ≡ (due_gives later c).0 → (due_gives later c).1 ≡ None
     none_due_left_where_item_comes later (Some r) y is = refl
     none_due_left_where_item_comes later None y is = absurd cc
 
@@ -342,7 +342,7 @@ module _ {S P X B L E : Type 0} (steps : S → Answered X E → S → Type 0) (c
 
   module _ (s : S) (p : P) (later : L) where
     -- no item comes of it
-    no_item_of_stop : IsStop (due_comes (comes later)) → (y : B) (t : HintState) → HintSteps (s, (p, Some later)) (item y) t → ⊥
+    no_item_of_stop : IsStop (due_gives later (comes later)).0 → (y : B) (t : HintState) → HintSteps (s, (p, Some later)) (item y) t → ⊥
     no_item_of_stop stop y t w = (rw (sym w.0) at stop)
 
     zero_bounded : (o : Option ℕ) → IfSome o (λ n. 0 ≤ n)
@@ -350,15 +350,15 @@ module _ {S P X B L E : Type 0} (steps : S → Answered X E → S → Type 0) (c
     zero_bounded (Some n) = omega arith
 
     -- so each upper bound is sound
-    pub bounds_above_where_stop_due : (o : Option ℕ) → IsStop (due_comes (comes later)) → BoundsAbove HintSteps (s, (p, Some later)) o
+    pub bounds_above_where_stop_due : (o : Option ℕ) → IsStop (due_gives later (comes later)).0 → BoundsAbove HintSteps (s, (p, Some later)) o
     bounds_above_where_stop_due o stop ys t ran = if_some_at_least_of_smaller o (length ys) 0 ((brackets_zero_where_no_item HintSteps (s, (p, Some later)) (no_item_of_stop stop)).above ys t ran) (zero_bounded o)
 
-    no_end_where_failure_due : (e : E) → due_comes (comes later) ≡ failure e → (ys : List B) (t u : HintState) → Yields HintSteps (s, (p, Some later)) ys t → HintSteps t end u → ⊥
+    no_end_where_failure_due : (e : E) → (due_gives later (comes later)).0 ≡ failure e → (ys : List B) (t u : HintState) → Yields HintSteps (s, (p, Some later)) ys t → HintSteps t end u → ⊥
     no_end_where_failure_due e is [] t u ran step = let w : HintSteps (s, (p, Some later)) end u = subst (λ (v : HintState). HintSteps v end u) (sym ran) step in let other = w.0 ∙ is in cc
     no_end_where_failure_due e is (y ∷ ys) t u ran step = let w = ran.1 in let other = w.0 ∙ is in cc
 
     -- and each lower one where that is a failure, and 0 at an end
-    pub bounds_below_where_stop_due : (low : ℕ) (r : Answered B E) → due_comes (comes later) ≡ r → IsStop r → (r ≡ end → low ≤ 0) → BoundsBelow HintSteps (s, (p, Some later)) low
+    pub bounds_below_where_stop_due : (low : ℕ) (r : Answered B E) → (due_gives later (comes later)).0 ≡ r → IsStop r → (r ≡ end → low ≤ 0) → BoundsBelow HintSteps (s, (p, Some later)) low
     bounds_below_where_stop_due low (Ok (Some y)) is stop none = absurd stop
     bounds_below_where_stop_due low (Ok None) is stop none = λ ys t u ran step. let few = none refl in omega (arith, few)
     bounds_below_where_stop_due low (Err e) is stop none = (brackets_any_lower_where_no_end HintSteps (s, (p, Some later)) low (λ ys t u ran step. no_end_where_failure_due e is ys t u ran step)).below
@@ -386,15 +386,15 @@ failures_of (Some e) = 1
 module _ {L B E : Type 0} (comes : L → Option (Answered B E)) (most : ℕ) {H : Type 0} (held : H → ℕ) where
   -- At an item at most `most` answers are emitted beyond what was held and isn't any more; at a stop no item beyond that, and a stop last.
   abbrev pub ItemWeighs : H → Transition H B L E → Type 0
-  ItemWeighs h t = (emitted_total comes items_of t.0 + held t.1 ≤ held h + most) × (emitted_total comes stays_of t.0 + held t.1 ≤ held h + most)
+  ItemWeighs h t = (emitted_total comes 0 t.0 + held t.1 ≤ held h + most) × (emitted_total comes 1 t.0 + held t.1 ≤ held h + most)
 
   abbrev pub StopWeighs : H → Option E → Transition H B L E → Type 0
-  StopWeighs h stop t = (emitted_total comes items_of t.0 + held t.1 ≤ held h) × (emitted_total comes stays_of t.0 + held t.1 ≤ held h + most * failures_of stop) × EndsInStop comes t.0
+  StopWeighs h stop t = (emitted_total comes 0 t.0 + held t.1 ≤ held h) × (emitted_total comes 1 t.0 + held t.1 ≤ held h + most * failures_of stop) × EndsInStop comes t.0
 
-  item_emitted_weighs : (h : H) (t : Transition H B L E) (emitted : Emitted B L E) (k : H) → IsTransition t emitted k → ItemWeighs h t → (emitted_total comes items_of emitted + held k ≤ held h + most * 1) × (emitted_total comes stays_of emitted + held k ≤ held h + most * 1) × (⊥ → EndsInStop comes emitted)
+  item_emitted_weighs : (h : H) (t : Transition H B L E) (emitted : Emitted B L E) (k : H) → IsTransition t emitted k → ItemWeighs h t → (emitted_total comes 0 emitted + held k ≤ held h + most * 1) × (emitted_total comes 1 emitted + held k ≤ held h + most * 1) × (⊥ → EndsInStop comes emitted)
   item_emitted_weighs h t emitted k w g = rw (w.0, w.1) (omega (arith, g.0), omega (arith, g.1), λ s. absurd s)
 
-  stop_emitted_weighs : (h : H) (stop : Option E) (t : Transition H B L E) (emitted : Emitted B L E) (k : H) → IsTransition t emitted k → StopWeighs h stop t → (emitted_total comes items_of emitted + held k ≤ held h + most * 0) × (emitted_total comes stays_of emitted + held k ≤ held h + most * failures_of stop) × (⊤ → EndsInStop comes emitted)
+  stop_emitted_weighs : (h : H) (stop : Option E) (t : Transition H B L E) (emitted : Emitted B L E) (k : H) → IsTransition t emitted k → StopWeighs h stop t → (emitted_total comes 0 emitted + held k ≤ held h + most * 0) × (emitted_total comes 1 emitted + held k ≤ held h + most * failures_of stop) × (⊤ → EndsInStop comes emitted)
   stop_emitted_weighs h stop t emitted k w g = rw (w.0, w.1) (omega (arith, g.0), g.1, λ s. g.2)
 
   pub is_stage_plan : {F Q R X : Type 0} (call : F → Q → R → F → Type 0) (plan : H → X → Plan Q R (Transition H B L E)) (stops : H → Option E → Transition H B L E) → ((h : H) (x : X) → Always (λ t. ItemWeighs h t) (plan h x)) → ((h : H) (stop : Option E) → StopWeighs h stop (stops h stop)) → IsStage comes (plan_meets call plan stops) most (λ (p : H × F). held p.0)
@@ -455,8 +455,8 @@ pub closure_stays : {H F Q R T V X E : Type 0} (takes : F → Q → Type 0) (pla
 closure_stays takes plan P K p q weak reached c = is_callable_after {pre = λ r a. IfItem (plan_takes takes plan r) a} weak reached c
 
 -- the hint by a plan, by what is held and what is due
-abbrev pub plan_hint : {S H F L X E : Type 0} → Contract S X E → (H → Option L → HintPlan) → S × ((H × F) × Option L) → ℕ × Option ℕ → Type 0
-plan_hint m hint p h = HintBy m p.0 (hint p.1.0.0 p.1.1) h
+abbrev pub plan_hint : {S H F L X E : Type 0} → Contract S X E → (H → Option L → (ℕ × Option ℕ → Type 0) → ℕ × Option ℕ → Type 0) → S × ((H × F) × Option L) → ℕ × Option ℕ → Type 0
+plan_hint m hint p h = hint p.1.0.0 p.1.1 (m.hints p.0) h
 
 -- a hint is sound once a stop is due, and before wherever the hint of the source is that it is made of
 abbrev pub held_sound : {S H F X E : Type 0} → Contract S X E → (H → ℕ × Option ℕ → ℕ × Option ℕ) → SoundWhere (S × ((H × F) × Option (Option E)))
@@ -465,30 +465,30 @@ held_sound m made = sound_once (λ p. IsSome p.1.1) (as_made (λ p. p.0) m.hints
 -- ---- Why the hints of an adapter by functions are sound where it says so, by how many answers each plan emits
 
 -- at a stop that passes no item is emitted
-pub passes_at_most : {H B L E : Type 0} (comes : L → Option (Answered B E)) (most : ℕ) (h : H) (stop : Option E) → (emitted_total comes items_of (passes {L = L} h stop).0 ≤ most) × EndsInStop comes (passes {L = L} h stop).0
+pub passes_at_most : {H B L E : Type 0} (comes : L → Option (Answered B E)) (most : ℕ) (h : H) (stop : Option E) → (emitted_total comes 0 (passes {L = L} h stop).0 ≤ most) × EndsInStop comes (passes {L = L} h stop).0
 passes_at_most comes most h None = (omega arith, tt)
 passes_at_most comes most h (Some e) = (omega arith, tt)
 
 -- `most h n` bounds how many items come of n of the source where h is held; `Few h low n` holds of each number n of items before an end, if at least `low` come of the source.
 module _ {H F Q R X B L E : Type 0} (comes : L → Option (Answered B E)) (call : F → Q → R → F → Type 0) (plan : H → X → Plan Q R (Transition H B L E)) (stops : H → Option E → Transition H B L E) (most : H → ℕ → ℕ) (Few : H → ℕ → ℕ → Type 0) where
   pub record PlanMakes : Type 0 where
-    pub at_most : (h : H) (x : X) (n : ℕ) → Always (λ t. emitted_total comes items_of t.0 + most t.1 n ≤ most h (suc n)) (plan h x)
-    pub at_most_at_stop : (h : H) (stop : Option E) → (emitted_total comes items_of (stops h stop).0 ≤ most h 0) × EndsInStop comes (stops h stop).0
+    pub at_most : (h : H) (x : X) (n : ℕ) → Always (λ t. emitted_total comes 0 t.0 + most t.1 n ≤ most h (suc n)) (plan h x)
+    pub at_most_at_stop : (h : H) (stop : Option E) → (emitted_total comes 0 (stops h stop).0 ≤ most h 0) × EndsInStop comes (stops h stop).0
     pub no_fewer : (h : H) (x : X) (low : ℕ) → Always (λ t. EmittedFew comes t.0 (λ n. Few t.1 (low - 1) n) (λ n. Few h low n)) (plan h x)
     pub no_fewer_at_end : (h : H) → EmittedFew comes (stops h None).0 (λ n. Few (stops h None).1 0 n) (λ n. Few h 0 n)
     pub no_fewer_at_failure : (h : H) (e : E) (low : ℕ) → EmittedFew comes (stops h (Some e)).0 (λ n. Few (stops h (Some e)).1 0 n) (λ n. Few h low n)
 
   module _ (plan_makes : PlanMakes) where
-    most_of_emitted : (h : H) (n : ℕ) (t : Transition H B L E) (m : Emitted B L E) (k : H) → IsTransition t m k → emitted_total comes items_of t.0 + most t.1 n ≤ most h (suc n) → emitted_total comes items_of m + most k n ≤ most h (suc n)
+    most_of_emitted : (h : H) (n : ℕ) (t : Transition H B L E) (m : Emitted B L E) (k : H) → IsTransition t m k → emitted_total comes 0 t.0 + most t.1 n ≤ most h (suc n) → emitted_total comes 0 m + most k n ≤ most h (suc n)
     most_of_emitted h n t m k w is = rw (w.0, w.1) is
 
     few_of_emitted : (h : H) (low i : ℕ) (t : Transition H B L E) (m : Emitted B L E) (k : H) → IsTransition t m k → EmittedFew comes t.0 (λ n. Few t.1 i n) (λ n. Few h low n) → EmittedFew comes m (λ n. Few k i n) (λ n. Few h low n)
     few_of_emitted h low i t m k w is = rw (w.0, w.1) is
 
-    stop_of_emitted : (h : H) (t : Transition H B L E) (m : Emitted B L E) (k : H) → IsTransition t m k → (emitted_total comes items_of t.0 ≤ most h 0) × EndsInStop comes t.0 → (emitted_total comes items_of m ≤ most h 0) × EndsInStop comes m
+    stop_of_emitted : (h : H) (t : Transition H B L E) (m : Emitted B L E) (k : H) → IsTransition t m k → (emitted_total comes 0 t.0 ≤ most h 0) × EndsInStop comes t.0 → (emitted_total comes 0 m ≤ most h 0) × EndsInStop comes m
     stop_of_emitted h t m k w is = rw w.0 is
 
-    at_most_at_stop_met : (p : H × F) (a : Answered X E) (m : Emitted B L E) (q : H × F) → IsStop a → plan_meets call plan stops p a m q → (emitted_total comes items_of m ≤ most p.0 0) × EndsInStop comes m
+    at_most_at_stop_met : (p : H × F) (a : Answered X E) (m : Emitted B L E) (q : H × F) → IsStop a → plan_meets call plan stops p a m q → (emitted_total comes 0 m ≤ most p.0 0) × EndsInStop comes m
     at_most_at_stop_met p (Ok (Some x)) m q stop w = absurd stop
     at_most_at_stop_met p (Ok None) m q stop w = stop_of_emitted p.0 (stops p.0 None) m q.0 w.0 (plan_makes.at_most_at_stop p.0 None)
     at_most_at_stop_met p (Err e) m q stop w = stop_of_emitted p.0 (stops p.0 (Some e)) m q.0 w.0 (plan_makes.at_most_at_stop p.0 (Some e))
@@ -514,7 +514,7 @@ due_or_none None = inr (λ n. cc)
 due_or_none (Some later) = inl refl
 
 -- Where `done` holds of what is due, that is a stop; where it doesn't, the hint is `made` of the source's. Where an end is due it is none.
-module _ {H F Q R X B L E : Type 0} (comes : L → Option (Answered B E)) (call : F → Q → R → F → Type 0) (plan : H → X → Plan Q R (Transition H B L E)) (stops : H → Option E → Transition H B L E) (most : H → ℕ → ℕ) (Few : H → ℕ → ℕ → Type 0) (at_most : MakesAtMost comes (plan_meets call plan stops) (λ p n. most p.0 n)) (no_fewer : MakesNoFewer comes (plan_meets call plan stops) (λ p low n. Few p.0 low n)) (hint : H → Option L → HintPlan) (low : H → Option L → ℕ → ℕ) (high : H → Option L → Option ℕ → Option ℕ) (done : Option L → Type 0) (done_or_open : (due : Option L) → done due ⊎ (done due → ⊥)) (stop_where_done : (due : Option L) → done due → StopIsDue comes due) (none_at_end : (h : H) (later : L) → due_comes (comes later) ≡ end → hint h (Some later) ≡ makes (0, Some 0)) (above : (h : H) (due : Option L) → (done due → ⊥) → (o : Option ℕ) (n : ℕ) → IfSome o (λ j. n ≤ j) → IfSome (high h due o) (λ j. due_total comes items_of due + most h n ≤ j)) (below : (h : H) (due : Option L) → (done due → ⊥) → (n : ℕ) → DueFew comes due (λ k. Few h n k) (λ k. low h due n ≤ k)) where
+module _ {H F Q R X B L E : Type 0} (comes : L → Option (Answered B E)) (call : F → Q → R → F → Type 0) (plan : H → X → Plan Q R (Transition H B L E)) (stops : H → Option E → Transition H B L E) (most : H → ℕ → ℕ) (Few : H → ℕ → ℕ → Type 0) (at_most : MakesAtMost comes (plan_meets call plan stops) (λ p n. most p.0 n)) (no_fewer : MakesNoFewer comes (plan_meets call plan stops) (λ p low n. Few p.0 low n)) (hint : H → Option L → (ℕ × Option ℕ → Type 0) → ℕ × Option ℕ → Type 0) (low : H → Option L → ℕ → ℕ) (high : H → Option L → Option ℕ → Option ℕ) (done : Option L → Type 0) (done_or_open : (due : Option L) → done due ⊎ (done due → ⊥)) (stop_where_done : (due : Option L) → done due → StopIsDue comes due) (none_at_end : (h : H) (later : L) → (due_gives later (comes later)).0 ≡ end → (hints : ℕ × Option ℕ → Type 0) (k : ℕ × Option ℕ) → hint h (Some later) hints k → k ≡ (0, Some 0)) (above : (h : H) (due : Option L) → (done due → ⊥) → (o : Option ℕ) (n : ℕ) → IfSome o (λ j. n ≤ j) → IfSome (high h due o) (λ j. due_total comes 0 due + most h n ≤ j)) (below : (h : H) (due : Option L) → (done due → ⊥) → (n : ℕ) → DueFew comes due (λ k. Few h n k) (λ k. low h due n ≤ k)) where
   module _ {S : Type 0} (m : Contract S X E) (holds : HintsHold m.steps m.hints m.sound) where
     abbrev PlanState : Type 0
     PlanState = S × ((H × F) × Option L)
@@ -526,9 +526,9 @@ module _ {H F Q R X B L E : Type 0} (comes : L → Option (Answered B E)) (call 
     above_at_stop s p None o stop = absurd stop
     above_at_stop s p (Some later) o stop = bounds_above_where_stop_due m.steps comes (plan_meets call plan stops) s p later o stop
 
-    below_at_stop : (s : S) (p : H × F) (due : Option L) (h : ℕ × Option ℕ) → StopIsDue comes due → HintBy m s (hint p.0 due) h → BoundsBelow PlanSteps (s, (p, due)) h.0
+    below_at_stop : (s : S) (p : H × F) (due : Option L) (h : ℕ × Option ℕ) → StopIsDue comes due → hint p.0 due (m.hints s) h → BoundsBelow PlanSteps (s, (p, due)) h.0
     below_at_stop s p None h stop is = absurd stop
-    below_at_stop s p (Some later) h stop is = bounds_below_where_stop_due m.steps comes (plan_meets call plan stops) s p later h.0 (due_comes (comes later)) refl stop (λ over. let none : h ≡ (0, Some 0) = subst (λ (j : HintPlan). HintBy m s j h) (none_at_end p.0 later over) is in let zero = ap (λ (z : ℕ × Option ℕ). z.0) none in omega (arith, zero))
+    below_at_stop s p (Some later) h stop is = bounds_below_where_stop_due m.steps comes (plan_meets call plan stops) s p later h.0 (due_gives later (comes later)).0 refl stop (λ over. let none = none_at_end p.0 later over (m.hints s) h is in let zero = ap (λ (z : ℕ × Option ℕ). z.0) none in omega (arith, zero))
 
     above_of_made : (p : PlanState) (o : Option ℕ) → (done p.1.1 → ⊥) → (k : ℕ × Option ℕ) → m.hints p.0 k → o ≡ high p.1.0.0 p.1.1 k.1 → m.sound.above p.0 k.1 → BoundsAbove PlanSteps p o
     above_of_made p o unstopped k is by sound = subst (λ (u : Option ℕ). BoundsAbove PlanSteps p u) (sym by) (bounds_above_staged m.steps comes (plan_meets call plan stops) (λ p n. most p.0 n) at_most k.1 (high p.1.0.0 p.1.1 k.1) p.0 p.1.0 p.1.1 (λ n le. above p.1.0.0 p.1.1 unstopped k.1 n le) (holds.above p.0 k is sound))
@@ -552,14 +552,14 @@ stop_where_due B (Some (Some e)) some = tt
 
 -- `most h n` and `Few h low n` bound the items, as in `MakesAtMost` and `MakesNoFewer`; `low` and `high` are the bounds of the hint where no end is due.
 module _ {H F Q R X B E : Type 0} (call : F → Q → R → F → Type 0) (plan : H → X → Plan Q R (Transition H B (Option E) E)) (stops : H → Option E → Transition H B (Option E) E) (most : H → ℕ → ℕ) (Few : H → ℕ → ℕ → Type 0) (low : H → ℕ → ℕ) (high : H → Option ℕ → Option ℕ) (above : (h : H) (o : Option ℕ) (n : ℕ) → IfSome o (λ j. n ≤ j) → IfSome (high h o) (λ j. most h n ≤ j)) (below : (h : H) (n k : ℕ) → Few h n k → low h n ≤ k) where
-  abbrev hint_held : H → Option (Option E) → HintPlan
-  hint_held h due = hint_unless_end (calls tt (λ k. (low h k.0, high h k.1))) due
+  abbrev hint_held : H → Option (Option E) → (ℕ × Option ℕ → Type 0) → ℕ × Option ℕ → Type 0
+  hint_held h due hints j = hint_unless_end (λ k. (low h k.0, high h k.1)) due hints j
 
-  none_where_end_due : (h : H) (stop : Option E) → stop_answer {B = B} stop ≡ end → hint_held h (Some stop) ≡ makes (0, Some 0)
-  none_where_end_due h None over = refl
-  none_where_end_due h (Some e) over = absurd cc
+  none_where_end_due : (h : H) (stop : Option E) → stop_answer {B = B} stop ≡ end → (hints : ℕ × Option ℕ → Type 0) (k : ℕ × Option ℕ) → hint_held h (Some stop) hints k → k ≡ (0, Some 0)
+  none_where_end_due h None over hints k is = is
+  none_where_end_due h (Some e) over hints k is = absurd cc
 
-  above_where_open : (h : H) (due : Option (Option E)) → (IsSome due → ⊥) → (o : Option ℕ) (n : ℕ) → IfSome o (λ j. n ≤ j) → IfSome (high h o) (λ j. due_total {B = B} stop_comes items_of due + most h n ≤ j)
+  above_where_open : (h : H) (due : Option (Option E)) → (IsSome due → ⊥) → (o : Option ℕ) (n : ℕ) → IfSome o (λ j. n ≤ j) → IfSome (high h o) (λ j. due_total {B = B} stop_comes 0 due + most h n ≤ j)
   above_where_open h None unstopped o n le = if_some_at_least_of_smaller (high h o) (0 + most h n) (most h n) (omega arith) (above h o n le)
   above_where_open h (Some stop) unstopped o n le = absurd (unstopped refl)
 
@@ -592,13 +592,13 @@ module _ {H B : Type 0} (E : Type 0) (kept : H → Option B) (empty : H → H) (
   few_at_failure None e after before = tt
   few_at_failure (Some y) e after before = tt
 
-  at_most_at_stop : (h : H) (o : Option B) (stop : Option E) → held h ≡ held_one o → (emitted_total stop_comes items_of (before_stop o stop) ≤ 0 + held h) × EndsInStop stop_comes (before_stop o stop)
+  at_most_at_stop : (h : H) (o : Option B) (stop : Option E) → held h ≡ held_one o → (emitted_total stop_comes 0 (before_stop o stop) ≤ 0 + held h) × EndsInStop stop_comes (before_stop o stop)
   at_most_at_stop h None None is = (omega arith, tt)
   at_most_at_stop h None (Some e) is = (omega arith, tt)
   at_most_at_stop h (Some y) None is = (omega (arith, is), tt)
   at_most_at_stop h (Some y) (Some e) is = (omega (arith, is), tt)
 
-  always_at_most : {Q R : Type 0} (h : H) (n : ℕ) (t : Plan Q R (Transition H B (Option E) E)) → Always (λ v. ItemBuffers held h v) t → Always (λ v. emitted_total stop_comes items_of v.0 + (n + held v.1) ≤ suc n + held h) t
+  always_at_most : {Q R : Type 0} (h : H) (n : ℕ) (t : Plan Q R (Transition H B (Option E) E)) → Always (λ v. ItemBuffers held h v) t → Always (λ v. emitted_total stop_comes 0 v.0 + (n + held v.1) ≤ suc n + held h) t
   always_at_most h n (makes t) w = omega (arith, w.0.0)
   always_at_most h n (calls q by) w = λ v. let k = (w v).0.0 in omega (arith, k)
 
@@ -616,5 +616,5 @@ module _ {H B : Type 0} (E : Type 0) (kept : H → Option B) (empty : H → H) (
       no_fewer_at_failure = λ h e low. few_at_failure (kept h) e _ _;
     }
 
-    pub one_held_hold : {S : Type 0} (m : Contract S X E) → HintsHold m.steps m.hints m.sound → HintsHold (λ p r q. stage_step stop_comes (plan_meets call plan (λ h stop. (before_stop (kept h) stop, empty h))) m.steps p r q) (plan_hint m (λ h due. hint_unless_end (calls tt (held_hint (held h))) due)) (held_sound m (λ h. held_hint (held h)))
+    pub one_held_hold : {S : Type 0} (m : Contract S X E) → HintsHold m.steps m.hints m.sound → HintsHold (λ p r q. stage_step stop_comes (plan_meets call plan (λ h stop. (before_stop (kept h) stop, empty h))) m.steps p r q) (plan_hint m (λ h due hints k. hint_unless_end (λ j. (min (j.0 + held h) 1, fitting_sum j.1 (Some (held h)))) due hints k)) (held_sound m (λ h j. (min (j.0 + held h) 1, fitting_sum j.1 (Some (held h)))))
     one_held_hold m holds = held_hold call plan (λ h stop. (before_stop (kept h) stop, empty h)) (λ h n. n + held h) (λ h low n. min (low + held h) 1 ≤ n) (λ h n. min (n + held h) 1) (λ h o. fitting_sum o (Some (held h))) (λ h o n le. if_some_fitting_sum_at_least_both o (Some (held h)) n (held h) (n + held h) (omega arith) le (omega arith)) (λ h n k few. few) makes_held m holds

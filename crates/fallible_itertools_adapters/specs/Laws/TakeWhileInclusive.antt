@@ -8,8 +8,8 @@ use Rattle.fallible_iterator.specs.Contract.{Contract, Lawful}
 use Rattle.fallible_iterator.specs.Laws.Hints.Drawn.{if_some_at_least_of_smaller}
 use Rattle.fallible_iterator.specs.Sound.{HintsHold, sound_once, as_made}
 use Rattle.fallible_itertools_adapters.specs.Laws.Staging.{ItemWeighs, closure_stays, is_stage_plan, lawful_rule, passes_weighs, PlanMakes, makes_at_most_plan, makes_no_fewer_plan, passes_at_most, plan_hold, due_or_none, StopIsDue, DueFew, EmittedFew, plan_hint}
-use Rattle.fallible_itertools_adapters.specs.Staging.{none_held, passes, plan_meets, IsStage, ends_come, due_total, emitted_total, items_of, stage_step}
-use Rattle.fallible_itertools_adapters.specs.TakeWhileInclusive.{inclusive_by, inclusive_contract, inclusive_hint_plan, inclusive_plan, inclusive_rule, hint_of_first}
+use Rattle.fallible_itertools_adapters.specs.Staging.{none_held, passes, plan_meets, IsStage, ends_come, due_total, emitted_total, stage_step}
+use Rattle.fallible_itertools_adapters.specs.TakeWhileInclusive.{inclusive_by, inclusive_contract, inclusive_hint, inclusive_plan, inclusive_rule, hint_of_first}
 
 inclusive_weighs : {A : Type 0} (E : Type 0) (x : A) (v : Result Bool E) → ItemWeighs ends_come 1 none_held tt (inclusive_by x v)
 inclusive_weighs E x (Ok true) = (omega arith, omega arith)
@@ -28,7 +28,7 @@ module _ (X E : Type 0) where
   inclusive_few x low (Ok false) = omega arith
   inclusive_few x low (Err e) = tt
 
-  inclusive_at_most : (x : X) (n : ℕ) (v : Result Bool E) → emitted_total ends_come items_of (inclusive_by x v).0 + n ≤ suc n
+  inclusive_at_most : (x : X) (n : ℕ) (v : Result Bool E) → emitted_total ends_come 0 (inclusive_by x v).0 + n ≤ suc n
   inclusive_at_most x n (Ok true) = omega arith
   inclusive_at_most x n (Ok false) = omega arith
   inclusive_at_most x n (Err e) = omega arith
@@ -43,7 +43,7 @@ module _ (X E : Type 0) where
       no_fewer_at_failure = λ u e low. tt;
     }
 
-    due_total_is_zero : (due : Option (Unit {0})) → due_total {B = X} {E = E} ends_come items_of due ≡ 0
+    due_total_is_zero : (due : Option (Unit {0})) → due_total {B = X} {E = E} ends_come 0 due ≡ 0
     due_total_is_zero None = refl
     due_total_is_zero (Some over) = refl
 
@@ -55,9 +55,9 @@ module _ (X E : Type 0) where
     below_where_open u None unstopped low = λ n after. after
     below_where_open u (Some over) unstopped low = absurd (unstopped refl)
 
-    pub inclusive_hold : {S : Type 0} (m : Contract S X E) → HintsHold m.steps m.hints m.sound → HintsHold (λ p r q. stage_step ends_come (plan_meets call inclusive_plan passes) m.steps p r q) (plan_hint m inclusive_hint_plan) (sound_once (λ p. IsSome p.1.1) (as_made (λ p. p.0) m.hints m.sound (λ p. hint_of_first)))
-    inclusive_hold m holds = plan_hold ends_come call inclusive_plan passes (λ u n. n) (λ u low n. min low 1 ≤ n) (makes_at_most_plan ends_come call inclusive_plan passes (λ u n. n) (λ u low n. min low 1 ≤ n) inclusive_makes) (makes_no_fewer_plan ends_come call inclusive_plan passes (λ u n. n) (λ u low n. min low 1 ≤ n) inclusive_makes) inclusive_hint_plan (λ u due n. min n 1) (λ u due o. o)
-        (λ due. IsSome due) due_or_none stop_where_due (λ u over is. refl) (λ u due unstopped o n le. let none = due_total_is_zero due in if_some_at_least_of_smaller o (due_total {B = X} {E = E} ends_come items_of due + n) n (omega (arith, none)) le) below_where_open m holds
+    pub inclusive_hold : {S : Type 0} (m : Contract S X E) → HintsHold m.steps m.hints m.sound → HintsHold (λ p r q. stage_step ends_come (plan_meets call inclusive_plan passes) m.steps p r q) (plan_hint m inclusive_hint) (sound_once (λ p. IsSome p.1.1) (as_made (λ p. p.0) m.hints m.sound (λ p. hint_of_first)))
+    inclusive_hold m holds = plan_hold ends_come call inclusive_plan passes (λ u n. n) (λ u low n. min low 1 ≤ n) (makes_at_most_plan ends_come call inclusive_plan passes (λ u n. n) (λ u low n. min low 1 ≤ n) inclusive_makes) (makes_no_fewer_plan ends_come call inclusive_plan passes (λ u n. n) (λ u low n. min low 1 ≤ n) inclusive_makes) inclusive_hint (λ u due n. min n 1) (λ u due o. o)
+        (λ due. IsSome due) due_or_none stop_where_due (λ u over is hints k w. w) (λ u due unstopped o n le. let none = due_total_is_zero due in if_some_at_least_of_smaller o (due_total {B = X} {E = E} ends_come 0 due + n) n (omega (arith, none)) le) below_where_open m holds
 
 pub lawful_inclusive : {S F A E : Type 0} (g : Mut F (Bor A × Unit {0}) (Result Bool E)) {m : Contract S A E} → Lawful m → Lawful (inclusive_contract g m)
 lawful_inclusive {A = A} {E = E} g {m = m} l = lawful_rule l (inclusive_rule g) (is_stage_inclusive (call_by_reference g)) (closure_stays (takes_by_reference g) (inclusive_plan {E = E})) (inclusive_hold A E (call_by_reference g) m l.hold)

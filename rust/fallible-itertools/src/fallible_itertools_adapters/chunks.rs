@@ -71,7 +71,7 @@ impl<I: FallibleIterator> FallibleIterator for Chunks<I> {
             _ => {
                 let hint = self.it.size_hint();
                 let low = batches(hint.0, self.stage.0.0.0);
-                (low, with_held(hint, self.stage.0.0.1.is_some()).1)
+                (low, with_held(hint, &self.stage.0.0.1).1)
             }
         }
     }

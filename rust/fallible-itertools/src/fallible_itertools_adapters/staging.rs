@@ -23,7 +23,7 @@ pub type Emitted<B, D, E> = Option<AnswerAndDue<B, D, E>>;
 /// As it is proved, in [these words](crate::words):
 ///
 /// ```text
-/// ensures { result ≡ one_emitted answer }
+/// ensures { result ≡ Some (answer, None) }
 /// ```
 /// </details>
 #[inline(always)]
@@ -38,7 +38,7 @@ pub fn one<B, D, E>(answer: Result<Option<B>, E>) -> Emitted<B, D, E> {
 /// As it is proved, in [these words](crate::words):
 ///
 /// ```text
-/// ensures { result ≡ emitted_then answer due }
+/// ensures { result ≡ Some (answer, Some due) }
 /// ```
 /// </details>
 #[inline(always)]
@@ -89,10 +89,11 @@ pub fn let_go<B, E>(held: Option<B>, stop: Stop<E>) -> Emitted<B, Stop<E>, E> {
 /// As it is proved, in [these words](crate::words):
 ///
 /// ```text
-/// ensures { result ≡ held_hint (if is_held then 1 else 0) hint }
+/// ensures { result ≡ held_hint held.now hint }
 /// ```
 /// </details>
-pub fn with_held(hint: (usize, Option<usize>), is_held: bool) -> (usize, Option<usize>) {
+pub fn with_held<H>(hint: (usize, Option<usize>), held: &Option<H>) -> (usize, Option<usize>) {
+    let is_held = held.is_some();
     let low = if hint.0 > 0 || is_held { 1 } else { 0 };
     let high = match hint.1 {
         Some(bound) => bound.checked_add(if is_held { 1 } else { 0 }),
@@ -108,8 +109,7 @@ pub fn with_held(hint: (usize, Option<usize>), is_held: bool) -> (usize, Option<
 /// As it is proved, in [these words](crate::words):
 ///
 /// ```text
-/// ensures { HintBy I.contract it.now
-///     (hint_unless_end (calls tt (held_hint (held_one held.now))) due.now) result }
+/// ensures { hint_unless_end (held_hint held.now) due.now (I.contract.hints it.now) result }
 /// ```
 /// </details>
 pub fn hint_with_held<I: FallibleIterator, H>(
@@ -119,7 +119,7 @@ pub fn hint_with_held<I: FallibleIterator, H>(
 ) -> (usize, Option<usize>) {
     match *due {
         Some(None) => (0, Some(0)),
-        _ => with_held(it.size_hint(), held.is_some()),
+        _ => with_held(it.size_hint(), held),
     }
 }
 
@@ -163,7 +163,7 @@ pub trait Stage<P, X, E> {
     /// As it is proved, in [these words](crate::words):
     ///
     /// ```text
-    /// ensures { result ≡ (due_comes (rule.comes due), due_left due (rule.comes due)) }
+    /// ensures { result ≡ due_gives due (rule.comes due) }
     /// ```
     /// </details>
     fn answer_due(&self, due: Self::Due) -> AnswerAndDue<Self::Kept, Self::Due, E>;
