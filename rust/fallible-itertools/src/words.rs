@@ -141,7 +141,7 @@
 //! | `deduped_with_count` | the first of adjacent equal items, beside their number; a failure parts them |
 //! | `DrawsUpTo` | draws up to the first at which an answer is emitted |
 //! | `Driven` | The draws from s returned items and a last answer, and left t, by which the fold from the state c on returns r and leaves d. |
-//! | `due_comes`, `due_left` | What is due is an answer, or, where it is none, ends from then on. Here the answer, and what is due after it. |
+//! | `due_gives` | What is due is an answer, or, where it is none, ends from then on. Here the answer, and what is due after it. |
 //! | `duplicates_came` | the map, which has the first of equal items |
 //! | `duplicates_contract` | `Duplicates`' contract: its hint has the source's upper bound alone. |
 //! | `duplicates_of` | the items that equal exactly one before them; failures stay, and part nothing |
@@ -192,10 +192,8 @@
 //! | `HasItemsInOrderByKey` | The vector has the items, in the order of their keys. |
 //! | `HasItemsInOrderByTest` | The vector has the items, and none is less than one before it by the test lt. Nothing is said of which comes first of two of which neither is less. |
 //! | `HasSecondCloned` | a pair of the first of p itself and a clone of the second |
-//! | `held_hint` | Of the source's hint, where n are held: at least one if the source has one for certain or one is held, and at most what the source has and these, where that fits. |
-//! | `held_one` | an answer that is held, or none |
-//! | `hint_unless_end` | Where an end is due, no item comes before it. Otherwise this is the hint, also where a failure is due, after which more may come. |
-//! | `HintBy` | A hint as a plan: at once, or by what the source's hint is. |
+//! | `held_hint` | Of the source's hint, where one is held or none: at least one if the source has one for certain or one is held, and at most what the source has and what is held, where that fits. |
+//! | `hint_unless_end` | Where an end is due, no item comes before it. Otherwise the hint is made of the source's, also where a failure is due, after which more may come. |
 //! | `HoldsAtEachTurn` | P holds of each item that may come after items on which the turns went on, with what they made by then |
 //! | `IfItem` | where the answer is an item, P holds of it |
 //! | `in_order` | whether no item is less than the one before it; or the failure that comes before such an item |
@@ -293,7 +291,6 @@
 //! | `MinMaxKeyDrains` | The draws from s and the calls of the closure, one an item, by which the result is what is kept at last, without the keys; or the first failure. |
 //! | `nth_of` | the item with n items before it, or the failure or the end that comes first |
 //! | `NthDrains` | The draws from s returned the skipped items and then r, the first answer that is the item with n items before it, a failure, or an end. They left t. |
-//! | `one_emitted`, `emitted_then` | one answer; one, after which this is due |
 //! | `OneIsFinite` | One of the two sides is finite: the left, or whatever the other value may become. |
 //! | `OneOrBoth` | what a closure returns for two items: one to go on in their place, or two that stay apart; or a failure |
 //! | `only_left` | the item of the left, if there is none of the right |
