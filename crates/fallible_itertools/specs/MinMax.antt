@@ -96,11 +96,6 @@ module _ {A E F : Type 0} (call : F → A → A → Result Ordering E → F → 
   takes_beside takes f (OneElement a) x = takes f a x
   takes_beside takes f (MinMax a b) x = takes f a x × ((o : Ordering) (g : F) → call f a x (Ok o) g → is_gt o ≡ false → takes g b x)
 
--- the lesser and the greater of two items as what is kept, or the failure
-abbrev pub both_or_failure : {A E : Type 0} → Result (A × A) E → Result (MinMaxResult A) E
-both_or_failure (Ok p) = Ok (MinMax p.0 p.1)
-both_or_failure (Err e) = Err e
-
 -- the least item and the greatest as what is kept, or the failure
 abbrev pub widened_or_failure : {A E : Type 0} → A → A → Result (Unit {0}) E → Result (MinMaxResult A) E
 widened_or_failure a b (Ok u) = Ok (MinMax a b)

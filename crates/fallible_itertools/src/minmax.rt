@@ -3,7 +3,7 @@ ghost use Rattle.std.specs.Prelude.{◌≡◌, ⊤};
 ghost use Rattle.fallible_iterator.specs.Closures.{call_by_reference, takes_by_reference};
 ghost use Rattle.fallible_iterator.specs.Folds.{CallableInFold, FoldDrains};
 ghost use Rattle.fallible_iterator.specs.Picking.{call_at_two, takes_at_two};
-ghost use Rattle.fallible_itertools.specs.MinMax.{MinMaxCall, MinMaxKeyCall, MinMaxKeyDrains, WidensBoth, WidensBothBy, both_or_failure, least_and_greatest, or_less, place_of, takes_beside, widened_or_failure, with_item, with_keyed};
+ghost use Rattle.fallible_itertools.specs.MinMax.{MinMaxCall, MinMaxKeyCall, MinMaxKeyDrains, WidensBoth, WidensBothBy, least_and_greatest, or_less, place_of, takes_beside, two_in_order, widened_or_failure, with_item, with_keyed};
 ghost use Rattle.fallible_itertools.specs.declared.minmax.MinMaxResult.TheVariants.{MinMax, NoElements, OneElement};
 
 use fallible_iterator::{FallibleIterator, Turn};
@@ -35,11 +35,11 @@ impl<T: Copy> MinMaxResult<T> {
     }
 }
 
-/// Returns the lesser and the greater of two items; of equal ones the first is the lesser.
-pub fn lesser_first<A: Ord>(first: A, second: A) -> (A, A)
-    ensures { MinMax result.0 result.1 ≡ with_item A.cmp (OneElement first) second }
+/// Returns the lesser and the greater of two items, by the order of the first beside the second; of equal ones the first is the lesser.
+pub fn lesser_first<A>(order: Ordering, first: A, second: A) -> (A, A)
+    ensures { MinMax result.0 result.1 ≡ two_in_order first second order }
 {
-    if first.cmp(&second).is_gt() {
+    if order.is_gt() {
         (second, first)
     } else {
         (first, second)
@@ -76,29 +76,6 @@ impl<A: Ord + Drop> Turn<(A, A), A, Infallible> for MinMaxTurn {
 }
 
 // ---- The least and the greatest item by a closure, in one pass
-
-// Returns two items, the lesser by the closure first; of equal ones the first is the lesser.
-fn lesser_first_by<A: Drop, E, F: FnMut(&A, &A) -> Result<Ordering, E>>(
-    first: A,
-    second: A,
-    f: &mut F,
-) -> Result<(A, A), E>
-    requires { takes_beside (call_at_two F.FnMut) (takes_at_two F.FnMut) f.old (OneElement first)
-        second }
-    ensures { MinMaxCall (call_at_two F.FnMut) f.old (OneElement first) second (both_or_failure result)
-        f.new }
-{
-    match f(&first, &second) {
-        Ok(order) => {
-            if order.is_gt() {
-                Ok((second, first))
-            } else {
-                Ok((first, second))
-            }
-        }
-        Err(e) => Err(e),
-    }
-}
 
 // The item replaces the least one if the closure finds that greater. Otherwise it replaces the greatest one, unless the closure finds that greater.
 #[inline(always)]
@@ -177,11 +154,11 @@ where
         Ok(None) => return Ok(MinMaxResult::OneElement(first)),
         Err(e) => return Err(e),
     };
-    let both = match lesser_first_by(first, second, &mut f) {
-        Ok(both) => both,
+    let order = match f(&first, &second) {
+        Ok(order) => order,
         Err(e) => return Err(e),
     };
-    let mut state = (both, f);
+    let mut state = (lesser_first(order, first, second), f);
     match it.drive(&mut state, &MinMaxByTurn) {
         Ok(None) => {
             let (least, greatest) = state.0;
@@ -189,17 +166,6 @@ where
         }
         Ok(Some(e)) => Err(e),
         Err(e) => Err(e),
-    }
-}
-
-// Returns two items with their keys, the one with the lesser key first; of equal ones the first is the lesser.
-fn lesser_key_first<A: Drop, K: Ord + Drop>(first: (K, A), second: (K, A)) -> ((K, A), (K, A))
-    ensures { MinMax result.0 result.1 ≡ with_keyed K.cmp (OneElement first) second }
-{
-    if first.0.cmp(&second.0).is_gt() {
-        (second, first)
-    } else {
-        (first, second)
     }
 }
 
@@ -272,7 +238,11 @@ where
         Err(e) => return Err(e),
     };
     let mut state = (
-        lesser_key_first((first_key, first), (second_key, second)),
+        lesser_first(
+            first_key.cmp(&second_key),
+            (first_key, first),
+            (second_key, second),
+        ),
         f,
     );
     match it.drive(&mut state, &MinMaxKeyTurn) {

@@ -1745,7 +1745,7 @@ pub trait FallibleItertools: FallibleIterator {
             Ok(None) => return Ok(MinMaxResult::OneElement(first)),
             Err(e) => return Err(e),
         };
-        let mut both = lesser_first(first, second);
+        let mut both = lesser_first(first.cmp(&second), first, second);
         match self.drive(&mut both, &MinMaxTurn) {
             Ok(None) => Ok(MinMaxResult::MinMax(both.0, both.1)),
             Ok(Some(never)) => match never {},

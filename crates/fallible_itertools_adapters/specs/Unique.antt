@@ -35,12 +35,21 @@ sieved takes z (Err e ∷ l) = Err e ∷ sieved takes z l
 
 -- ---- `UniqueBy`, which yields the first item of each key
 
-module _ {A K S E : Type 0} (eq : K → K → Bool) (from : AllocError → E → Type 0) where
-  -- An item whose key equals none of the set's is yielded, and the set has the key then. If the set has no room that is spare, the allocation of it may fail: then the item is lost, and the set stays.
+-- the set has the key then
+abbrev pub adds_key : {K S : Type 0} → (K → K → Bool) → HashSet K S → K → HashSet K S → Type 0
+adds_key eq keys k more = Updates eq keys more k true
+
+-- the set has no room that is spare, so that an allocation may fail
+abbrev pub is_full : {K S : Type 0} → HashSet K S → K → Type 0
+is_full keys k = spare keys ≡ 0
+
+-- `adds` says how the set has one key more, and `may_fail` where an allocation may fail.
+module _ {A K S E : Type 0} (adds : HashSet K S → K → HashSet K S → Type 0) (may_fail : HashSet K S → K → Type 0) (from : AllocError → E → Type 0) where
+  -- An item whose key equals none of the set's is yielded, and the set has the key then. If an allocation fails the item is lost, and the set stays.
   abbrev pub unseen_key : HashSet K S → A → K → Outcome A E → HashSet K S → Type 0
-  unseen_key keys x k (Kept y) more = (y ≡ x) × Updates eq keys more k true
+  unseen_key keys x k (Kept y) more = (y ≡ x) × adds keys k more
   unseen_key keys x k LeftOut more = ⊥
-  unseen_key keys x k (Failure e) more = IsRefusal from e × (spare keys ≡ 0) × IsUnchanged keys more
+  unseen_key keys x k (Failure e) more = IsRefusal from e × may_fail keys k × IsUnchanged keys more
   unseen_key keys x k End more = ⊥
 
   -- an item is left out if its key equals one of the set's
@@ -49,18 +58,18 @@ module _ {A K S E : Type 0} (eq : K → K → Bool) (from : AllocError → E →
   key_at keys x k false o more = unseen_key keys x k o more
 
   -- What becomes of an item by its key. One that has no key, since the closure failed, is lost, and the set stays.
-  abbrev pub keyed_by : HashSet K S → A → Result K E → Outcome A E → HashSet K S → Type 0
-  keyed_by keys x (Ok k) o more = key_at keys x k (contains eq keys k) o more
-  keyed_by keys x (Err e) o more = (o ≡ Failure e) × (more ≡ keys)
+  abbrev pub keyed_by : (K → K → Bool) → HashSet K S → A → Result K E → Outcome A E → HashSet K S → Type 0
+  keyed_by eq keys x (Ok k) o more = key_at keys x k (contains eq keys k) o more
+  keyed_by eq keys x (Err e) o more = (o ≡ Failure e) × (more ≡ keys)
 
-  module _ {F : Type 0} (call : F → A → Result K E → F → Type 0) where
-    -- The set has the keys of the items that were yielded. Beside it is the closure, which is called once on each item.
-    abbrev pub key_asks : HashSet K S × F → A → Outcome A E → HashSet K S × F → Type 0
-    key_asks p x o q = (v : Result K E) × call p.1 x v q.1 × keyed_by p.0 x v o q.0
+module _ {A K S E F : Type 0} (eq : K → K → Bool) (from : AllocError → E → Type 0) (call : F → A → Result K E → F → Type 0) where
+  -- The set has the keys of the items that were yielded. Beside it is the closure, which is called once on each item.
+  abbrev pub key_asks : HashSet K S × F → A → Outcome A E → HashSet K S × F → Type 0
+  key_asks p x o q = (v : Result K E) × call p.1 x v q.1 × keyed_by (adds_key eq) is_full from eq p.0 x v o q.0
 
-    -- `UniqueBy`: the source's trace without the items whose keys equal one before them. The closure's failure is in the place of the item that it failed on. Where room for a key couldn't be allocated, that failure is in the item's place; failures and ends part nothing.
-    abbrev pub UniqueByTrace : {I : Type 0} → (I → List (Answered A E) → I → Type 0) → I × (HashSet K S × F) → List (Answered A E) → I × (HashSet K S × F) → Type 0
-    UniqueByTrace traces p trace q = passes_all traces key_asks as_answered_item p trace q
+  -- `UniqueBy`: the source's trace without the items whose keys equal one before them. The closure's failure is in the place of the item that it failed on. Where room for a key couldn't be allocated, that failure is in the item's place; failures and ends part nothing.
+  abbrev pub UniqueByTrace : {I : Type 0} → (I → List (Answered A E) → I → Type 0) → I × (HashSet K S × F) → List (Answered A E) → I × (HashSet K S × F) → Type 0
+  UniqueByTrace traces p trace q = passes_all traces key_asks as_answered_item p trace q
 
 -- the closure may be called on a reference to the item
 abbrev pub key_takes : {A H F : Type 0} → (F → A → Type 0) → H × F → A → Type 0
@@ -130,21 +139,17 @@ module _ {A S E : Type 0} (eq : A → A → Bool) (is_clone : A → A → Type 0
   abbrev pub MayFailToKeep : HashSet A S → A → Type 0
   MayFailToKeep seen x = (¬ (is_infallible x)) ⊎ (spare seen ≡ 0)
 
-  -- An item that equals none of the set's is yielded, and the set has a clone of it then. If an allocation fails the item is lost, and the set stays.
+  -- the set has a clone of the item then
+  abbrev pub adds_clone : HashSet A S → A → HashSet A S → Type 0
+  adds_clone seen x more = (copy : A) × is_clone x copy × Updates eq seen more copy true
+
+  -- an item that equals none of the set's, as its own key
   abbrev pub unique_unseen : HashSet A S → A → Outcome A E → HashSet A S → Type 0
-  unique_unseen seen x (Kept y) more = (y ≡ x) × ((copy : A) × is_clone x copy × Updates eq seen more copy true)
-  unique_unseen seen x LeftOut more = ⊥
-  unique_unseen seen x (Failure e) more = IsRefusal from e × MayFailToKeep seen x × IsUnchanged seen more
-  unique_unseen seen x End more = ⊥
+  unique_unseen seen x o more = unseen_key adds_clone MayFailToKeep from seen x x o more
 
-  -- an item is left out if it equals one of the set's
-  abbrev pub unique_by : HashSet A S → A → Bool → Outcome A E → HashSet A S → Type 0
-  unique_by seen x true o more = (o ≡ LeftOut) × (more ≡ seen)
-  unique_by seen x false o more = unique_unseen seen x o more
-
-  -- The set has clones of the items that were yielded.
+  -- The set has clones of the items that were yielded, and each is its own key: it is left out if it equals one of them.
   abbrev pub unique_asks : HashSet A S → A → Outcome A E → HashSet A S → Type 0
-  unique_asks seen x o more = unique_by seen x (contains eq seen x) o more
+  unique_asks seen x o more = keyed_by adds_clone MayFailToKeep from eq seen x (Ok x) o more
 
   -- `Unique`: the source's trace without the items that equal one before them, where an item whose clone, or the room for it, couldn't be allocated is replaced by the failure; failures and ends part nothing.
   abbrev pub UniqueTrace : {I : Type 0} → (I → List (Answered A E) → I → Type 0) → I × HashSet A S → List (Answered A E) → I × HashSet A S → Type 0

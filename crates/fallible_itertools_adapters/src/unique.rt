@@ -5,7 +5,7 @@ ghost use Rattle.std.specs.HashSet.{IsEmpty, contains};
 ghost use Rattle.fallible_iterator.specs.Closures.{call_by_reference, takes_by_reference};
 ghost use Rattle.fallible_iterator.specs.Contract.{parts_as};
 ghost use Rattle.fallible_iterator.specs.Laws.Contract.{lawful_parts};
-ghost use Rattle.fallible_itertools_adapters.specs.Unique.{duplicates_asks, duplicates_came, duplicates_contract, duplicates_made, duplicates_parts, duplicates_source, kept_unless, key_asks, key_takes, keyed_by, unique_asks, unique_by_closure, unique_by_contract, unique_by_keys, unique_by_made, unique_by_parts, unique_by_source, unique_contract, unique_made, unique_parts, unique_seen, unique_source, unique_unseen};
+ghost use Rattle.fallible_itertools_adapters.specs.Unique.{adds_key, duplicates_asks, duplicates_came, duplicates_contract, duplicates_made, duplicates_parts, duplicates_source, is_full, kept_unless, key_asks, key_takes, keyed_by, unique_asks, unique_by_closure, unique_by_contract, unique_by_keys, unique_by_made, unique_by_parts, unique_by_source, unique_contract, unique_made, unique_parts, unique_seen, unique_source, unique_unseen};
 ghost use Rattle.fallible_itertools_adapters.specs.Laws.Unique.{lawful_duplicates, lawful_unique, lawful_unique_by};
 
 use fallible_iterator::extending::{FirstTurn, Outcome, Pass, drive_passing};
@@ -220,7 +220,7 @@ fn first_of_key<X: Drop, E: From<AllocError>, K: Eq + Hash + Drop>(
     key: K,
     item: X,
 ) -> Outcome<X, E>
-    ensures { keyed_by K.eq E.from_gives keys.old item (Ok key) result keys.new }
+    ensures { keyed_by (adds_key K.eq) is_full E.from_gives K.eq keys.old item (Ok key) result keys.new }
 {
     if keys.contains(&key) {
         return Outcome::LeftOut;

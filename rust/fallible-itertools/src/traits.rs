@@ -2024,7 +2024,7 @@ pub trait FallibleItertools: FallibleIterator + Sized {
             Ok(None) => return Ok(MinMaxResult::OneElement(first)),
             Err(e) => return Err(e),
         };
-        let mut both = lesser_first(first, second);
+        let mut both = lesser_first(first.cmp(&second), first, second);
         match self.by_turns(&mut both, &MinMaxTurn) {
             Ok(None) => Ok(MinMaxResult::MinMax(both.0, both.1)),
             Ok(Some(never)) => match never {},

@@ -396,7 +396,7 @@
 //! | `tuples_contract` | `Tuples`' contract: of the items of the source every second one counts in the hint. It requires no bound of the source: one draw leaves out one item at most. |
 //! | `tuples_parts` | the source, and the item that is held |
 //! | `turns` | The state is whether it is the right's turn; nothing is held. |
-//! | `unique_by` | an item is left out if it equals one of the set's |
+//! | `two_in_order` | what is kept of two items by their order: of equal ones the first is the least |
 //! | `unique_by_closure` | the closure |
 //! | `unique_by_contract` | `UniqueBy`'s contract: its hint has the source's upper bound alone. |
 //! | `unique_by_key` | The first item of each key, which h makes; where h fails, its failure in the item's place. Failures stay, and part nothing. |
@@ -420,7 +420,6 @@
 //! | `windowed` | each two adjacent items; a failure stands in its place, and parts nothing |
 //! | `with_index_contract` | `MapErrWithIndex`'s contract: the closure may be called on each failure that may come, with any index; all else is the source's, its hints too. |
 //! | `with_index_parts` | the source and the index of what comes next, and the closure |
-//! | `with_item` | What is kept after one more item: it takes the place of the least where it is less, and of the greatest where it is greater or equal. |
 //! | `with_position_contract` | `WithPosition`'s contract. It requires no bound of the source: one draw leaves out one item at most. |
 //! | `with_position_parts` | the source, the item that is held with whether one came before it, and the stop that is due |
 //! | `without_source` | the result where the source never fails |

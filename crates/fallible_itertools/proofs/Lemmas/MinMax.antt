@@ -26,31 +26,7 @@ use Rattle.fallible_itertools.specs.declared.minmax.MinMaxResult.TheVariants.{No
 
 -- ---- The least and the greatest item by one fold
 
--- ---- the words of the list, item by item
-
-best_of_fold : {A : Type 0} → Ordering → (A → A → Ordering) → A → List A → A
-best_of_fold keeps by b [] = b
-best_of_fold keeps by b (x ∷ items) = best_of_fold keeps by (better keeps (by b x) b x) items
-
-module _ {A E : Type 0} (keeps : Ordering) (by : A → A → Ordering) where
-  abbrev pick_answer : Option A → A → Result (Option A) E
-  pick_answer b x = pick_of keeps (λ y z. Ok (by y z)) b x
-
-  folded_is_best_of_fold : (items : List A) (b : A) → folded (λ (e : E). e) pick_answer (Some b) (map (λ x. Ok x) items) ≡ Ok (Some (best_of_fold keeps by b items))
-  unfolding folded best_of_fold
-  folded_is_best_of_fold [] b = refl
-  folded_is_best_of_fold (x ∷ items) b = folded_is_best_of_fold items (better keeps (by b x) b x)
-
-  folded_fails_at_failure : (items : List A) (b : Option A) (e : E) (rest : List (Result A E)) → folded (λ (d : E). d) pick_answer b (map (λ x. Ok x) items ++ Err e ∷ rest) ≡ Err e
-  unfolding folded
-  folded_fails_at_failure [] b e rest = refl
-  folded_fails_at_failure (x ∷ items) None e rest = folded_fails_at_failure items (Some x) e rest
-  folded_fails_at_failure (x ∷ items) (Some b) e rest = folded_fails_at_failure items (Some (better keeps (by b x) b x)) e rest
-
 module _ {A : Type 0} {cmp : A → A → Ordering} (o : IsTotalOrder cmp) where
-  abbrev pub or_less_by : A → A → Ordering
-  or_less_by x y = or_less (cmp x y)
-
   reversed_is_not_greater_where_greater : (x y : A) → cmp x y ≡ Greater → is_gt (cmp y x) ≡ false
   reversed_is_not_greater_where_greater x y e = ap is_gt (o.antisymm y x ∙ ap ordering_reverse e)
 
@@ -80,27 +56,44 @@ module _ {A : Type 0} {cmp : A → A → Ordering} (o : IsTotalOrder cmp) where
   abbrev WidensTo : (R : Type 0) → MinMaxResult A → A → ControlFlow R (Unit {0}) → MinMaxResult A → Type 0
   WidensTo R c x r d = (r ≡ Continue tt) × (d ≡ with_item cmp c x)
 
+  module _ (E : Type 0) where
+    abbrev kept_by_order : MinMaxResult A → A → Result (MinMaxResult A) E
+    kept_by_order c x = Ok (with_item cmp c x)
+
+    -- the two folds from a least and a greatest item on
+    abbrev both_from : A → A → List (Result A E) → Result (MinMaxResult A) E
+    both_from a b l = on_value (folded (λ (e : E). e) (pick_of Less (λ x y. Ok (or_less (cmp x y)))) (Some a) l) (λ p. on_value (folded (λ (e : E). e) (pick_of Greater (λ x y. Ok (cmp x y))) (Some b) l) (λ q. Ok (minmax_of p q)))
+
+    folded_from_both_is_both_from : (l : List (Result A E)) (a b : A) → is_gt (cmp a b) ≡ false → folded (λ (e : E). e) kept_by_order (MinMax a b) l ≡ both_from a b l
+    unfolding folded
+    folded_from_both_is_both_from [] a b inv = refl
+    folded_from_both_is_both_from (Err e ∷ l) a b inv = refl
+    folded_from_both_is_both_from (Ok x ∷ l) a b inv = let s = min_max_step_of_item (cmp a x) (cmp b x) a b x refl refl inv in
+        ap (λ (c : MinMaxResult A). folded (λ (e : E). e) kept_by_order c l) s.0 ∙ folded_from_both_is_both_from l (better Less (or_less (cmp a x)) a x) (better Greater (cmp b x) b x) s.1
+
+    pub minmaxed_of_fold : (l : List (Result A E)) → folded (λ (e : E). e) kept_by_order NoElements l ≡ minmaxed cmp l
+    unfolding folded minmaxed first_least greatest best_by
+    minmaxed_of_fold [] = refl
+    minmaxed_of_fold (Err e ∷ l) = refl
+    minmaxed_of_fold (Ok x ∷ []) = refl
+    minmaxed_of_fold (Ok x ∷ Err e ∷ l) = refl
+    minmaxed_of_fold (Ok x ∷ Ok y ∷ l) = let s = min_max_step_of_item_from_one (cmp x y) x y refl in
+        ap (λ (c : MinMaxResult A). folded (λ (e : E). e) kept_by_order c l) s.0 ∙ folded_from_both_is_both_from l (better Less (or_less (cmp x y)) x y) (better Greater (cmp x y) x y) s.1
+
+    folded_over_kept : (R : Type 0) (items : List A) (c d : MinMaxResult A) → FoldsTo (goes_on (WidensTo R)) c items d → folded (λ (e : E). e) kept_by_order c (map (λ x. Ok x) items) ≡ Ok d
+    unfolding folded
+    folded_over_kept R [] c d w = ap Ok w
+    folded_over_kept R (x ∷ items) c d w = ap (λ (k : MinMaxResult A). folded (λ (e : E). e) kept_by_order k (map (λ x. Ok x) items)) (sym w.1.1) ∙ folded_over_kept R items w.0 d w.2
+
+    folded_fails_at_failure : (items : List A) (c : MinMaxResult A) (e : E) (rest : List (Result A E)) → folded (λ (d : E). d) kept_by_order c (map (λ x. Ok x) items ++ Err e ∷ rest) ≡ Err e
+    unfolding folded
+    folded_fails_at_failure [] c e rest = refl
+    folded_fails_at_failure (x ∷ items) c e rest = folded_fails_at_failure items (with_item cmp c x) e rest
+
   module _ (R : Type 0) where
-    min_max_after_items : (items : List A) (a b : A) (d : MinMaxResult A) → is_gt (cmp a b) ≡ false → FoldsTo (goes_on (WidensTo R)) (MinMax a b) items d → d ≡ MinMax (best_of_fold Less or_less_by a items) (best_of_fold Greater cmp b items)
-    unfolding best_of_fold
-    min_max_after_items [] a b d inv w = sym w
-    min_max_after_items (x ∷ items) a b d inv w = let s = min_max_step_of_item (cmp a x) (cmp b x) a b x refl refl inv in
-        min_max_after_items items (better Less (or_less (cmp a x)) a x) (better Greater (cmp b x) b x) d s.1 (subst (λ (c : MinMaxResult A). FoldsTo (goes_on (WidensTo R)) c items d) (w.1.1 ∙ s.0) w.2)
-
-    kept_at_end : (E : Type 0) (items : List A) (d : MinMaxResult A) → FoldsTo (goes_on (WidensTo R)) NoElements items d → ◌≡◌ {A = Result (MinMaxResult A) E} (Ok d) (minmaxed cmp (map (λ x. Ok x) items))
-    unfolding minmaxed first_least greatest best_by folded
-    kept_at_end E [] d w = ap Ok (sym w)
-    kept_at_end E (x ∷ []) d w = ap Ok (sym w.2 ∙ w.1.1)
-    kept_at_end E (x ∷ y ∷ items) d w =
-        let s = min_max_step_of_item_from_one (cmp x y) x y refl in
-        let second : FoldsTo (goes_on (WidensTo R)) (MinMax (better Less (or_less (cmp x y)) x y) (better Greater (cmp x y) x y)) items d = subst (λ (c : MinMaxResult A). FoldsTo (goes_on (WidensTo R)) c items d) (w.2.1.1 ∙ ap (λ (c : MinMaxResult A). with_item cmp c y) w.1.1 ∙ s.0) w.2.2 in
-        let is = min_max_after_items items (better Less (or_less (cmp x y)) x y) (better Greater (cmp x y) x y) d s.1 second in
-        ap Ok is ∙ sym (ap (λ (r : Result (Option A) E). on_value r (λ a. on_value (folded (λ (e : E). e) (pick_answer Greater cmp) (Some (better Greater (cmp x y) x y)) (map (λ z. Ok z) items)) (λ b. Ok (minmax_of a b)))) (folded_is_best_of_fold Less or_less_by items (better Less (or_less (cmp x y)) x y))
-        ∙ ap (λ (r : Result (Option A) E). on_value r (λ b. Ok (minmax_of (Some (best_of_fold Less or_less_by (better Less (or_less (cmp x y)) x y) items)) b))) (folded_is_best_of_fold Greater cmp items (better Greater (cmp x y) x y)))
-
     module _ {E : Type 0} (c : MinMaxResult A) where
       min_max_exit_end : (items : List A) (last : Answered A E) (d : MinMaxResult A) → FoldsTo (goes_on (WidensTo R)) NoElements items d → DriveExit (WidensTo R) d last (Ok None) c → MinMaxExit cmp items last (Ok c)
-      min_max_exit_end items (Ok None) d w h = ap Ok h.1 ∙ kept_at_end E items d w
+      min_max_exit_end items (Ok None) d w h = ap Ok h.1 ∙ sym (folded_over_kept E R items NoElements d w) ∙ minmaxed_of_fold E (map (λ x. Ok x) items)
       min_max_exit_end items (Ok (Some x)) d w h = absurd (let e = h.1.0 in cc)
       min_max_exit_end items (Err e) d w h = absurd (let f = h.0 in cc)
 
@@ -122,19 +115,14 @@ module _ {A : Type 0} {cmp : A → A → Ordering} (o : IsTotalOrder cmp) where
 
 -- ---- over a list
 
-minmaxed_fails_at_failure : {A E : Type 0} (cmp : A → A → Ordering) (items : List A) (e : E) (rest : List (Result A E)) → minmaxed cmp (map (λ x. Ok x) items ++ Err e ∷ rest) ≡ Err e
-unfolding minmaxed first_least greatest best_by folded
-minmaxed_fails_at_failure cmp [] e rest = refl
-minmaxed_fails_at_failure {A = A} {E = E} cmp (x ∷ []) e rest = refl
-minmaxed_fails_at_failure {A = A} {E = E} cmp (x ∷ y ∷ items) e rest = ap (λ (r : Result (Option A) E). on_value r (λ a. on_value (folded (λ (d : E). d) (pick_answer Greater cmp) (Some (better Greater (cmp x y) x y)) (map (λ z. Ok z) items ++ Err e ∷ rest)) (λ b. Ok (minmax_of a b)))) (folded_fails_at_failure Less (λ y z. or_less (cmp y z)) items (Some (better Less (or_less (cmp x y)) x y)) e rest)
+module _ {A E : Type 0} {cmp : A → A → Ordering} (o : IsTotalOrder cmp) where
+  minmaxed_of_exit : (items : List A) (last : Answered A E) (r : Result (MinMaxResult A) E) (rest : List (Result A E)) → RestAt last rest → MinMaxExit cmp items last r → r ≡ minmaxed cmp (map (λ x. Ok x) items ++ rest)
+  minmaxed_of_exit items (Ok None) r rest left exit = exit ∙ sym (ap (minmaxed cmp) (ap (λ (k : List (Result A E)). map (λ x. Ok x) items ++ k) left ∙ append-nil (map (λ x. Ok x) items)))
+  minmaxed_of_exit items (Err e) r rest left exit = exit ∙ sym (ap (λ (k : List (Result A E)). minmaxed cmp (map (λ x. Ok x) items ++ k)) left.1 ∙ sym (minmaxed_of_fold o E (map (λ x. Ok x) items ++ Err e ∷ left.0)) ∙ folded_fails_at_failure o E items NoElements e left.0)
+  minmaxed_of_exit items (Ok (Some x)) r rest left exit = absurd exit
 
-minmaxed_of_exit : {A E : Type 0} (cmp : A → A → Ordering) (items : List A) (last : Answered A E) (r : Result (MinMaxResult A) E) (rest : List (Result A E)) → RestAt last rest → MinMaxExit cmp items last r → r ≡ minmaxed cmp (map (λ x. Ok x) items ++ rest)
-minmaxed_of_exit cmp items (Ok None) r rest left exit = exit ∙ sym (ap (minmaxed cmp) (ap (λ (k : List (Result _ _)). map (λ x. Ok x) items ++ k) left ∙ append-nil (map (λ x. Ok x) items)))
-minmaxed_of_exit cmp items (Err e) r rest left exit = exit ∙ sym (ap (λ (k : List (Result _ _)). minmaxed cmp (map (λ x. Ok x) items ++ k)) left.1 ∙ minmaxed_fails_at_failure cmp items e left.0)
-minmaxed_of_exit cmp items (Ok (Some x)) r rest left exit = absurd exit
-
-pub minmaxed_of_lists : {S A E : Type 0} {steps : S → Answered A E → S → Type 0} (cmp : A → A → Ordering) {s : S} {r : Result (MinMaxResult A) E} (l : List (Result A E)) → MinMaxDrains cmp steps s r → Lists steps s l → r ≡ minmaxed cmp l
-minmaxed_of_lists {A = A} {E = E} {steps = steps} cmp {s = s} {r = r} l c i = let w = c.1 in let d = drawn_of_lists steps w.items w.last l s c.0 i.runs w.ran in minmaxed_of_exit cmp w.items w.last r d.rest d.rest_is w.at.exit ∙ sym (ap (minmaxed cmp) d.list_is)
+  pub minmaxed_of_lists : {S : Type 0} {steps : S → Answered A E → S → Type 0} {s : S} {r : Result (MinMaxResult A) E} (l : List (Result A E)) → MinMaxDrains cmp steps s r → Lists steps s l → r ≡ minmaxed cmp l
+  minmaxed_of_lists {steps = steps} {s = s} {r = r} l c i = let w = c.1 in let d = drawn_of_lists steps w.items w.last l s c.0 i.runs w.ran in minmaxed_of_exit w.items w.last r d.rest d.rest_is w.at.exit ∙ sym (ap (minmaxed cmp) d.list_is)
 
 -- ---- The least and the greatest item by a closure, over a list
 
@@ -184,34 +172,11 @@ folded_is_same_where_functions_alike h k same b (Err e ∷ l) = refl
 folded_is_same_where_functions_alike {B = B} {E = E} h k same b (Ok x ∷ l) = ap (λ (r : Result B E). on_value r (λ c. folded (λ (e : E). e) h c l)) (same b x) ∙ on_value_is_same_where_functions_alike (k b x) (λ c. folded (λ (e : E). e) h c l) (λ c. folded (λ (e : E). e) k c l) (λ c. folded_is_same_where_functions_alike h k same c l)
 
 module _ {A : Type 0} {cmp : A → A → Ordering} (o : IsTotalOrder cmp) (E : Type 0) where
-  abbrev kept_by_order : MinMaxResult A → A → Result (MinMaxResult A) E
-  kept_by_order c x = Ok (with_item cmp c x)
-
-  -- the two folds from a least and a greatest item on
-  abbrev both_from : A → A → List (Result A E) → Result (MinMaxResult A) E
-  both_from a b l = on_value (folded (λ (e : E). e) (pick_of Less (λ x y. Ok (or_less (cmp x y)))) (Some a) l) (λ p. on_value (folded (λ (e : E). e) (pick_of Greater (λ x y. Ok (cmp x y))) (Some b) l) (λ q. Ok (minmax_of p q)))
-
-  folded_from_both_is_both_from : (l : List (Result A E)) (a b : A) → is_gt (cmp a b) ≡ false → folded (λ (e : E). e) kept_by_order (MinMax a b) l ≡ both_from a b l
-  unfolding folded
-  folded_from_both_is_both_from [] a b inv = refl
-  folded_from_both_is_both_from (Err e ∷ l) a b inv = refl
-  folded_from_both_is_both_from (Ok x ∷ l) a b inv = let s = min_max_step_of_item o (cmp a x) (cmp b x) a b x refl refl inv in
-      ap (λ (c : MinMaxResult A). folded (λ (e : E). e) kept_by_order c l) s.0 ∙ folded_from_both_is_both_from l (better Less (or_less (cmp a x)) a x) (better Greater (cmp b x) b x) s.1
-
-  pub minmaxed_of_fold : (l : List (Result A E)) → folded (λ (e : E). e) kept_by_order NoElements l ≡ minmaxed cmp l
-  unfolding folded minmaxed first_least greatest best_by
-  minmaxed_of_fold [] = refl
-  minmaxed_of_fold (Err e ∷ l) = refl
-  minmaxed_of_fold (Ok x ∷ []) = refl
-  minmaxed_of_fold (Ok x ∷ Err e ∷ l) = refl
-  minmaxed_of_fold (Ok x ∷ Ok y ∷ l) = let s = min_max_step_of_item_from_one o (cmp x y) x y refl in
-      ap (λ (c : MinMaxResult A). folded (λ (e : E). e) kept_by_order c l) s.0 ∙ folded_from_both_is_both_from l (better Less (or_less (cmp x y)) x y) (better Greater (cmp x y) x y) s.1
-
   cond_of_ok_is_ok_of_cond : (v : Bool) (c d : MinMaxResult A) → ◌≡◌ {A = Result (MinMaxResult A) E} (cond v (Ok c) (Ok d)) (Ok (cond v c d))
   cond_of_ok_is_ok_of_cond true c d = refl
   cond_of_ok_is_ok_of_cond false c d = refl
 
-  with_item_by_is_kept_by_order : (c : MinMaxResult A) (x : A) → with_item_by (λ y z. Ok (cmp y z)) c x ≡ kept_by_order c x
+  with_item_by_is_kept_by_order : (c : MinMaxResult A) (x : A) → with_item_by (λ y z. Ok (cmp y z)) c x ≡ kept_by_order o E c x
   with_item_by_is_kept_by_order NoElements x = refl
   with_item_by_is_kept_by_order (OneElement a) x = refl
   with_item_by_is_kept_by_order (MinMax a b) x = cond_of_ok_is_ok_of_cond (is_gt (cmp a x)) (MinMax x b) (greatest_in_order a b x (cmp b x))
@@ -219,7 +184,7 @@ module _ {A : Type 0} {cmp : A → A → Ordering} (o : IsTotalOrder cmp) (E : T
   -- by an order it is `minmaxed`
   pub minmaxed_by_order_is_minmaxed : (l : List (Result A E)) → minmaxed_by (λ x y. Ok (cmp x y)) l ≡ minmaxed cmp l
   unfolding minmaxed_by
-  minmaxed_by_order_is_minmaxed l = folded_is_same_where_functions_alike (with_item_by (λ y z. Ok (cmp y z))) kept_by_order with_item_by_is_kept_by_order NoElements l ∙ minmaxed_of_fold l
+  minmaxed_by_order_is_minmaxed l = folded_is_same_where_functions_alike (with_item_by (λ y z. Ok (cmp y z))) (kept_by_order o E) with_item_by_is_kept_by_order NoElements l ∙ minmaxed_of_fold o E l
 
 -- ---- the fold
 

@@ -5,7 +5,7 @@ use Rattle.std.specs.Cmp.{IsEquivalence}
 use Rattle.std.specs.Fn.{Mut}
 use Rattle.std.specs.HashMap as hash
 use Rattle.std.specs.HashMap.{HashMap, get}
-use Rattle.std.specs.HashSet.{HashSet, IsEmpty, Updates, contains}
+use Rattle.std.specs.HashSet.{HashSet, IsEmpty, contains}
 use Rattle.std.specs.List.{AllByRecursion, IsDistinct, cons_option, count_by, find, list_any}
 use Rattle.std.specs.Map.{lookup}
 use Rattle.std.specs.Set.{ClonesAreEqual, is_member}
@@ -27,7 +27,7 @@ use Rattle.fallible_iterator.proofs.Lemmas.Lists.Passing.{end_of_nil, answer_is_
 use Rattle.fallible_iterator.proofs.Lemmas.Refusing.{lists_until_refused_seen}
 use Rattle.fallible_iterator.proofs.Lemmas.Seen.{HasSeen, cond_true_is_or, has_seen_more}
 use Rattle.fallible_itertools_adapters.specs.Outcomes.{as_answered_item}
-use Rattle.fallible_itertools_adapters.specs.Unique.{sieved, by_key_made, first_of_key, key_asks, key_at, keyed_by, unique_by_contract, unique_by_keys, unique_by_parts, unique_by_key, unique_asks, unique_by, unique_contract, unique_of, unique_parts, unique_seen, come_by, duplicates_asks, duplicates_came, duplicates_contract, duplicates_of, duplicates_parts, second_of, second_of_equal, has_key, is_key}
+use Rattle.fallible_itertools_adapters.specs.Unique.{MayFailToKeep, sieved, by_key_made, first_of_key, adds_clone, adds_key, is_full, key_asks, key_at, keyed_by, unique_by_contract, unique_by_keys, unique_by_parts, unique_by_key, unique_asks, unique_contract, unique_of, unique_parts, unique_seen, come_by, duplicates_asks, duplicates_came, duplicates_contract, duplicates_of, duplicates_parts, second_of, second_of_equal, has_key, is_key}
 use Rattle.fallible_itertools_adapters.specs.UnlessRefused.{GivesUnlessRefused, ListsUnlessRefused}
 use Rattle.fallible_itertools_adapters.proofs.Lemmas.UnlessRefused.{gives_unless_refused_seen}
 use Rattle.fallible_itertools_adapters.specs.declared.unique.Duplicates.{Duplicates}
@@ -156,29 +156,30 @@ module _ {Z A E : Type 0} (takes : Z → A → Option (Result A E) × Z) where
 
 -- ---- What `UniqueBy` lists, up to an allocation failure
 
-module _ {A K E : Type 0} (S : Type 0) (eq : K → K → Bool) (equivalence : IsEquivalence eq) (from : AllocError → E → Type 0) where
+module _ {A K S E : Type 0} (eq : K → K → Bool) (from : AllocError → E → Type 0) where
   -- what is told of an item, where the set has a key that equals k if one of those that came does
   abbrev ToldOfKeys : Option (Result A E) × List K → Outcome A E → HashSet K S → Type 0
   ToldOfKeys = ToldOrRefused from ⊥ (λ (q : HashSet K S) (keys : List K). HasSeen eq q keys)
 
-  told_by_member : (p q : HashSet K S) (keys : List K) (x : A) (k : K) (b : Bool) (o : Outcome A E) → HasSeen eq p keys → key_at eq from p x k b o q → ToldOfKeys (first_of_key eq keys x k b) o q
-  told_by_member p q keys x k true o has w = inr (w.0, subst (λ (s : HashSet K S). HasSeen eq s keys) (sym w.1) has)
-  told_by_member p q keys x k false (Kept y) has w = inr (ap (λ z. Kept z) w.0, has_seen_more eq equivalence p q keys k has w.1)
-  told_by_member p q keys x k false LeftOut has w = absurd w
-  told_by_member p q keys x k false (Failure e) has w = inl (e, refl, w.0, inr refl)
-  told_by_member p q keys x k false End has w = absurd w
+  module _ {adds : HashSet K S → K → HashSet K S → Type 0} (may_fail : HashSet K S → K → Type 0) (more : (p q : HashSet K S) (keys : List K) (k : K) → HasSeen eq p keys → adds p k q → HasSeen eq q (k ∷ keys)) where
+    told_by_member : (p q : HashSet K S) (keys : List K) (x : A) (k : K) (b : Bool) (o : Outcome A E) → HasSeen eq p keys → key_at adds may_fail from p x k b o q → ToldOfKeys (first_of_key eq keys x k b) o q
+    told_by_member p q keys x k true o has w = inr (w.0, subst (λ (s : HashSet K S). HasSeen eq s keys) (sym w.1) has)
+    told_by_member p q keys x k false (Kept y) has w = inr (ap (λ z. Kept z) w.0, more p q keys k has w.1)
+    told_by_member p q keys x k false LeftOut has w = absurd w
+    told_by_member p q keys x k false (Failure e) has w = inl (e, refl, w.0, inr refl)
+    told_by_member p q keys x k false End has w = absurd w
 
-  told_by_key : (p q : HashSet K S) (keys : List K) (x : A) (v : Result K E) (o : Outcome A E) → HasSeen eq p keys → keyed_by eq from p x v o q → ToldOfKeys (by_key_made eq keys x v) o q
-  told_by_key p q keys x (Ok k) o has w = subst (λ (b : Bool). ToldOfKeys (first_of_key eq keys x k b) o q) (has k) (told_by_member p q keys x k (contains eq p k) o has w)
-  told_by_key p q keys x (Err e) o has w = inr (w.0, subst (λ (s : HashSet K S). HasSeen eq s keys) (sym w.1) has)
+    told_by_key : (p q : HashSet K S) (keys : List K) (x : A) (v : Result K E) (o : Outcome A E) → HasSeen eq p keys → keyed_by adds may_fail from eq p x v o q → ToldOfKeys (by_key_made eq keys x v) o q
+    told_by_key p q keys x (Ok k) o has w = subst (λ (b : Bool). ToldOfKeys (first_of_key eq keys x k b) o q) (has k) (told_by_member p q keys x k (contains eq p k) o has w)
+    told_by_key p q keys x (Err e) o has w = inr (w.0, subst (λ (s : HashSet K S). HasSeen eq s keys) (sym w.1) has)
 
-  module _ {F : Type 0} (call : F → A → Result K E → F → Type 0) (f : F) (h : A → Result K E) (acts : Acts call f h) where
-    -- the closure is as it was
-    abbrev pub SeenBy : HashSet K S × F → List K → Type 0
-    SeenBy p keys = HasSeen eq p.0 keys × (p.1 ≡ f)
+module _ {A K E F : Type 0} (S : Type 0) (eq : K → K → Bool) (equivalence : IsEquivalence eq) (from : AllocError → E → Type 0) (call : F → A → Result K E → F → Type 0) (f : F) (h : A → Result K E) (acts : Acts call f h) where
+  -- the closure is as it was
+  abbrev pub SeenBy : HashSet K S × F → List K → Type 0
+  SeenBy p keys = HasSeen eq p.0 keys × (p.1 ≡ f)
 
-    pub told_by_closure : (p q : HashSet K S × F) (keys : List K) (x : A) (o : Outcome A E) → SeenBy p keys → key_asks eq from call p x o q → ToldOrRefused from ⊥ SeenBy (by_key_made eq keys x (h x)) o q
-    told_by_closure p q keys x o at w = let d = acts x w.0 q.1 (subst (λ (g : F). call g x w.0 q.1) at.1 w.1) in elim (told_by_key p.0 q.0 keys x (h x) o at.0 (subst (λ (v : Result K E). keyed_by eq from p.0 x v o q.0) d.1 w.2)) [ inl k ↦ inl k | inr k ↦ inr (k.0, (k.1, d.0)) ]
+  pub told_by_closure : (p q : HashSet K S × F) (keys : List K) (x : A) (o : Outcome A E) → SeenBy p keys → key_asks eq from call p x o q → ToldOrRefused from ⊥ SeenBy (by_key_made eq keys x (h x)) o q
+  told_by_closure p q keys x o at w = let d = acts x w.0 q.1 (subst (λ (g : F). call g x w.0 q.1) at.1 w.1) in elim (told_by_key eq from is_full (has_seen_more eq equivalence) p.0 q.0 keys x (h x) o at.0 (subst (λ (v : Result K E). keyed_by (adds_key eq) is_full from eq p.0 x v o q.0) d.1 w.2)) [ inl k ↦ inl k | inr k ↦ inr (k.0, (k.1, d.0)) ]
 
 pub lists_unique_by_key : {I A K F E : Type 0} (eq : K → K → Bool) (equivalence : IsEquivalence eq) (from : AllocError → E → Type 0) (m : Contract I A E) (g : Mut F (Bor A × Unit {0}) (Result K E)) (s : UniqueBy I K F) (f : F) (h : A → Result K E) (l : List (Result A E)) → IsEmpty (unique_by_keys s) → s.keying.1 ≡ f → Acts (call_by_reference g) f h → Lists m.steps s.it l → ListsUntilRefused (λ x y. y ≡ x) (parts_as unique_by_parts (unique_by_contract eq from m g)).steps from s (unique_by_key eq h l)
 unfolding unique_by_key
@@ -191,27 +192,13 @@ module _ {A E : Type 0} (S : Type 0) (eq : A → A → Bool) (equivalence : IsEq
   eq_of_clone_is_eq_of_original : (x copy k : A) → is_clone x copy → eq copy k ≡ eq k x
   eq_of_clone_is_eq_of_original x copy k c = sym (equivalence.congr x copy k (clones x copy c)) ∙ equivalence.symm x k
 
-  has_seen_copy : (p q : HashSet A S) (seen : List A) (x copy : A) → HasSeen eq p seen → is_clone x copy → Updates eq p q copy true → HasSeen eq q (x ∷ seen)
-  has_seen_copy p q seen x copy has c updates k = updates.0 k ∙ ap (λ (b : Bool). cond b true (contains eq p k)) (eq_of_clone_is_eq_of_original x copy k c) ∙ ap (λ (b : Bool). cond (eq k x) true b) (has k) ∙ cond_true_is_or (eq k x) (is_member eq seen k)
-
-  -- what is told of an item, where the set has one that equals k if one of those seen does
-  abbrev ToldOfSeen : Option (Result A E) × List A → Outcome A E → HashSet A S → Type 0
-  ToldOfSeen = ToldOrRefused from ⊥ (λ (q : HashSet A S) (seen : List A). HasSeen eq q seen)
-
-  item_told_by_member : (p q : HashSet A S) (seen : List A) (x : A) (b : Bool) (o : Outcome A E) → HasSeen eq p seen → unique_by eq is_clone is_infallible from p x b o q → ToldOfSeen (first_of_key eq seen x x b) o q
-  item_told_by_member p q seen x true o has w = inr (w.0, subst (λ (s : HashSet A S). HasSeen eq s seen) (sym w.1) has)
-  item_told_by_member p q seen x false (Kept y) has w = inr (ap (λ z. Kept z) w.0, has_seen_copy p q seen x w.1.0 has w.1.1 w.1.2)
-  item_told_by_member p q seen x false LeftOut has w = absurd w
-  item_told_by_member p q seen x false (Failure e) has w = inl (e, refl, w.0, inr refl)
-  item_told_by_member p q seen x false End has w = absurd w
-
-  pub told_of_item : (p q : HashSet A S) (seen : List A) (x : A) (o : Outcome A E) → HasSeen eq p seen → unique_asks eq is_clone is_infallible from p x o q → ToldOfSeen (by_key_made eq seen x (Ok x)) o q
-  told_of_item p q seen x o has w = subst (λ (b : Bool). ToldOfSeen (first_of_key eq seen x x b) o q) (has x) (item_told_by_member p q seen x (contains eq p x) o has w)
+  has_seen_copy : (p q : HashSet A S) (seen : List A) (x : A) → HasSeen eq p seen → adds_clone eq is_clone is_infallible from p x q → HasSeen eq q (x ∷ seen)
+  has_seen_copy p q seen x has w k = w.2.0 k ∙ ap (λ (b : Bool). cond b true (contains eq p k)) (eq_of_clone_is_eq_of_original x w.0 k w.1) ∙ ap (λ (b : Bool). cond (eq k x) true b) (has k) ∙ cond_true_is_or (eq k x) (is_member eq seen k)
 
 pub lists_unique : {I A E : Type 0} (eq : A → A → Bool) (equivalence : IsEquivalence eq) (is_clone : A → A → Type 0) (clones : ClonesAreEqual eq is_clone) (is_infallible : A → Type 0) (from : AllocError → E → Type 0) (m : Contract I A E) (s : Unique I A E) (l : List (Result A E)) → IsEmpty (unique_seen s) → Lists m.steps s.it l → ListsUntilRefused (λ x y. y ≡ x) (parts_as unique_parts (unique_contract eq is_clone is_infallible from m)).steps from s (unique_of eq l)
 unfolding unique_of unique_by_key
 lists_unique eq equivalence is_clone clones is_infallible from m s l none i = lists_until_refused_seen (λ x y. y ≡ x) from unique_parts (unique_contract eq is_clone is_infallible from m).steps s refl refl
-    (gives_sieved_until_refused m.steps (unique_asks eq is_clone is_infallible from) from ⊥ (λ q seen. HasSeen eq q seen) (λ seen x. by_key_made eq seen x (Ok x)) (told_of_item _ eq equivalence is_clone clones is_infallible from) (λ never. never) l s.it s.seen [] (λ k. ap (list_any (eq k)) none) i.runs)
+    (gives_sieved_until_refused m.steps (unique_asks eq is_clone is_infallible from) from ⊥ (λ q seen. HasSeen eq q seen) (λ seen x. by_key_made eq seen x (Ok x)) (λ p q seen x o has w. told_by_key eq from (MayFailToKeep eq is_clone is_infallible from) (has_seen_copy _ eq equivalence is_clone clones is_infallible from) p q seen x (Ok x) o has w) (λ never. never) l s.it s.seen [] (λ k. ap (list_any (eq k)) none) i.runs)
 
 -- ---- What `Duplicates` lists, up to an allocation failure
 

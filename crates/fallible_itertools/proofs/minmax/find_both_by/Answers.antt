@@ -1,6 +1,6 @@
 -- A draw decides, or the second one does, or the closure on both, or the fold after that.
-use Rattle.std.specs.Prelude.{◌≡◌}
-use Rattle.std.proofs.Common.{refl}
+use Rattle.std.specs.Prelude.{◌≡◌, Ok}
+use Rattle.std.proofs.Common.{refl, ap}
 use Rattle.fallible_iterator.proofs.Lemmas.Folds.{driven_end, driven_failure, fold_drains_ended, fold_drains_failed}
 use Rattle.fallible_iterator.specs.Picking.{call_at_two, takes_at_two}
 use Rattle.fallible_itertools.specs.MinMax.{MinMaxCall, takes_beside}
@@ -20,20 +20,20 @@ returns-in-Ok-None-draw g c = (_, fold_drains_at_end_after_draw (MinMaxCall (cal
 pub returns-in-Err-draw : goal.returns-in-Err-draw
 returns-in-Err-draw g c = (_, fold_drains_at_failure_after_draw (MinMaxCall (call_at_two g.F.FnMut)) _ c.in-Ok-Some.first (rw c.in-Ok-Some.field-0-is at c.in-Ok-Some.ensures.drawn) (refl, refl) c.in-Err-draw.ensures.drawn)
 
-pub lesser_first_by-requires : goal.lesser_first_by-requires
-lesser_first_by-requires g c = takes_second_item (MinMaxCall (call_at_two g.F.FnMut)) (takes_beside (call_at_two g.F.FnMut) (takes_at_two g.F.FnMut)) c.requires.callable c.in-Ok-Some.first (rw c.in-Ok-Some.field-0-is at c.in-Ok-Some.ensures.drawn) (refl, refl) c.in-Ok-Some-draw.second (rw c.in-Ok-Some-draw.field-0-is at c.in-Ok-Some-draw.ensures.drawn)
+pub f-requires : goal.f-requires
+f-requires g c = takes_second_item (MinMaxCall (call_at_two g.F.FnMut)) (takes_beside (call_at_two g.F.FnMut) (takes_at_two g.F.FnMut)) c.requires.callable c.in-Ok-Some.first (rw c.in-Ok-Some.field-0-is at c.in-Ok-Some.ensures.drawn) (refl, refl) c.in-Ok-Some-draw.second (rw c.in-Ok-Some-draw.field-0-is at c.in-Ok-Some-draw.ensures.drawn) _ _ refl refl
 
-pub returns-in-Err-lesser_first_by : goal.returns-in-Err-lesser_first_by
-returns-in-Err-lesser_first_by g c = (_, fold_drains_where_second_call_fails (MinMaxCall (call_at_two g.F.FnMut)) _ c.in-Ok-Some.first (rw c.in-Ok-Some.field-0-is at c.in-Ok-Some.ensures.drawn) (refl, refl) c.in-Ok-Some-draw.second (rw c.in-Ok-Some-draw.field-0-is at c.in-Ok-Some-draw.ensures.drawn) c.in-Err-lesser_first_by.ensures)
+pub returns-in-Err-f : goal.returns-in-Err-f
+returns-in-Err-f g c = (_, fold_drains_where_second_call_fails (MinMaxCall (call_at_two g.F.FnMut)) _ c.in-Ok-Some.first (rw c.in-Ok-Some.field-0-is at c.in-Ok-Some.ensures.drawn) (refl, refl) c.in-Ok-Some-draw.second (rw c.in-Ok-Some-draw.field-0-is at c.in-Ok-Some-draw.ensures.drawn) (_, record { first = _; second = _; shows = (refl, refl); called = c.in-Err-f.ensures }, refl))
 
 pub drive-requires-clause-callable : goal.drive-requires-clause-callable
-drive-requires-clause-callable g c = callable_after_two_draws (MinMaxCall (call_at_two g.F.FnMut)) (takes_beside (call_at_two g.F.FnMut) (takes_at_two g.F.FnMut)) c.requires.callable c.in-Ok-Some.first (rw c.in-Ok-Some.field-0-is at c.in-Ok-Some.ensures.drawn) (refl, refl) c.in-Ok-Some-draw.second (rw c.in-Ok-Some-draw.field-0-is at c.in-Ok-Some-draw.ensures.drawn) c.in-Ok.ensures
+drive-requires-clause-callable g c = callable_after_two_draws (MinMaxCall (call_at_two g.F.FnMut)) (takes_beside (call_at_two g.F.FnMut) (takes_at_two g.F.FnMut)) c.requires.callable c.in-Ok-Some.first (rw c.in-Ok-Some.field-0-is at c.in-Ok-Some.ensures.drawn) (refl, refl) c.in-Ok-Some-draw.second (rw c.in-Ok-Some-draw.field-0-is at c.in-Ok-Some-draw.ensures.drawn) (_, record { first = _; second = _; shows = (refl, refl); called = c.in-Ok.ensures }, ap Ok c.lesser_first.ensures)
 
 pub returns-in-Ok-None-drive : goal.returns-in-Ok-None-drive
-returns-in-Ok-None-drive g c = (_, fold_drains_ended_after_two_draws (MinMaxCall (call_at_two g.F.FnMut)) _ c.in-Ok-Some.first (rw c.in-Ok-Some.field-0-is at c.in-Ok-Some.ensures.drawn) (refl, refl) c.in-Ok-Some-draw.second (rw c.in-Ok-Some-draw.field-0-is at c.in-Ok-Some-draw.ensures.drawn) c.in-Ok.ensures (rw c.in-Ok-None-drive.field-0-is at c.in-Ok-None-drive.ensures))
+returns-in-Ok-None-drive g c = (_, fold_drains_ended_after_two_draws (MinMaxCall (call_at_two g.F.FnMut)) _ c.in-Ok-Some.first (rw c.in-Ok-Some.field-0-is at c.in-Ok-Some.ensures.drawn) (refl, refl) c.in-Ok-Some-draw.second (rw c.in-Ok-Some-draw.field-0-is at c.in-Ok-Some-draw.ensures.drawn) (_, record { first = _; second = _; shows = (refl, refl); called = c.in-Ok.ensures }, ap Ok c.lesser_first.ensures) (rw c.in-Ok-None-drive.field-0-is at c.in-Ok-None-drive.ensures))
 
 pub returns-in-Ok-Some-drive : goal.returns-in-Ok-Some-drive
-returns-in-Ok-Some-drive g c = (_, fold_drains_stopped_after_two_draws (MinMaxCall (call_at_two g.F.FnMut)) _ c.in-Ok-Some.first (rw c.in-Ok-Some.field-0-is at c.in-Ok-Some.ensures.drawn) (refl, refl) c.in-Ok-Some-draw.second (rw c.in-Ok-Some-draw.field-0-is at c.in-Ok-Some-draw.ensures.drawn) c.in-Ok.ensures (rw c.in-Ok-Some-drive.field-0-is at c.in-Ok-Some-drive.ensures))
+returns-in-Ok-Some-drive g c = (_, fold_drains_stopped_after_two_draws (MinMaxCall (call_at_two g.F.FnMut)) _ c.in-Ok-Some.first (rw c.in-Ok-Some.field-0-is at c.in-Ok-Some.ensures.drawn) (refl, refl) c.in-Ok-Some-draw.second (rw c.in-Ok-Some-draw.field-0-is at c.in-Ok-Some-draw.ensures.drawn) (_, record { first = _; second = _; shows = (refl, refl); called = c.in-Ok.ensures }, ap Ok c.lesser_first.ensures) (rw c.in-Ok-Some-drive.field-0-is at c.in-Ok-Some-drive.ensures))
 
 pub returns : goal.returns
-returns g c = (_, fold_drains_failed_after_two_draws (MinMaxCall (call_at_two g.F.FnMut)) _ c.in-Ok-Some.first (rw c.in-Ok-Some.field-0-is at c.in-Ok-Some.ensures.drawn) (refl, refl) c.in-Ok-Some-draw.second (rw c.in-Ok-Some-draw.field-0-is at c.in-Ok-Some-draw.ensures.drawn) c.in-Ok.ensures c.in-Err-drive.ensures)
+returns g c = (_, fold_drains_failed_after_two_draws (MinMaxCall (call_at_two g.F.FnMut)) _ c.in-Ok-Some.first (rw c.in-Ok-Some.field-0-is at c.in-Ok-Some.ensures.drawn) (refl, refl) c.in-Ok-Some-draw.second (rw c.in-Ok-Some-draw.field-0-is at c.in-Ok-Some-draw.ensures.drawn) (_, record { first = _; second = _; shows = (refl, refl); called = c.in-Ok.ensures }, ap Ok c.lesser_first.ensures) c.in-Err-drive.ensures)

@@ -33,13 +33,13 @@ pub returns-in-Err-f-2 : goal.returns-in-Err-f-2
 returns-in-Err-f-2 g c = (_, _, fold_drains_where_second_call_fails (MinMaxKeyCall g.K.Ord.cmp (call_by_reference g.F.FnMut)) _ c.in-Ok-Some.first (rw c.in-Ok-Some.field-0-is at c.in-Ok-Some.ensures.drawn) (_, record { shown = _; shows = refl; called = c.in-Ok.ensures }, refl) c.in-Ok-Some-draw.second (rw c.in-Ok-Some-draw.field-0-is at c.in-Ok-Some-draw.ensures.drawn) (record { shown = _; shows = refl; called = c.in-Err-f-2.ensures }), refl)
 
 pub drive-requires-clause-callable : goal.drive-requires-clause-callable
-drive-requires-clause-callable g c = callable_after_two_draws (MinMaxKeyCall g.K.Ord.cmp (call_by_reference g.F.FnMut)) (λ f c x. takes_by_reference g.F.FnMut f x) c.requires.callable c.in-Ok-Some.first (rw c.in-Ok-Some.field-0-is at c.in-Ok-Some.ensures.drawn) (_, record { shown = _; shows = refl; called = c.in-Ok.ensures }, refl) c.in-Ok-Some-draw.second (rw c.in-Ok-Some-draw.field-0-is at c.in-Ok-Some-draw.ensures.drawn) (_, record { shown = _; shows = refl; called = c.in-Ok-f.ensures }, c.lesser_key_first.ensures)
+drive-requires-clause-callable g c = callable_after_two_draws (MinMaxKeyCall g.K.Ord.cmp (call_by_reference g.F.FnMut)) (λ f c x. takes_by_reference g.F.FnMut f x) c.requires.callable c.in-Ok-Some.first (rw c.in-Ok-Some.field-0-is at c.in-Ok-Some.ensures.drawn) (_, record { shown = _; shows = refl; called = c.in-Ok.ensures }, refl) c.in-Ok-Some-draw.second (rw c.in-Ok-Some-draw.field-0-is at c.in-Ok-Some-draw.ensures.drawn) (_, record { shown = _; shows = refl; called = c.in-Ok-f.ensures }, rw c.cmp.ensures at c.lesser_first.ensures)
 
 pub returns-in-Ok-None-drive : goal.returns-in-Ok-None-drive
-returns-in-Ok-None-drive g c = (_, _, fold_drains_ended_after_two_draws (MinMaxKeyCall g.K.Ord.cmp (call_by_reference g.F.FnMut)) _ c.in-Ok-Some.first (rw c.in-Ok-Some.field-0-is at c.in-Ok-Some.ensures.drawn) (_, record { shown = _; shows = refl; called = c.in-Ok.ensures }, refl) c.in-Ok-Some-draw.second (rw c.in-Ok-Some-draw.field-0-is at c.in-Ok-Some-draw.ensures.drawn) (_, record { shown = _; shows = refl; called = c.in-Ok-f.ensures }, c.lesser_key_first.ensures) (rw c.in-Ok-None-drive.field-0-is at c.in-Ok-None-drive.ensures), refl)
+returns-in-Ok-None-drive g c = (_, _, fold_drains_ended_after_two_draws (MinMaxKeyCall g.K.Ord.cmp (call_by_reference g.F.FnMut)) _ c.in-Ok-Some.first (rw c.in-Ok-Some.field-0-is at c.in-Ok-Some.ensures.drawn) (_, record { shown = _; shows = refl; called = c.in-Ok.ensures }, refl) c.in-Ok-Some-draw.second (rw c.in-Ok-Some-draw.field-0-is at c.in-Ok-Some-draw.ensures.drawn) (_, record { shown = _; shows = refl; called = c.in-Ok-f.ensures }, rw c.cmp.ensures at c.lesser_first.ensures) (rw c.in-Ok-None-drive.field-0-is at c.in-Ok-None-drive.ensures), refl)
 
 pub returns-in-Ok-Some-drive : goal.returns-in-Ok-Some-drive
-returns-in-Ok-Some-drive g c = (_, _, fold_drains_stopped_after_two_draws (MinMaxKeyCall g.K.Ord.cmp (call_by_reference g.F.FnMut)) _ c.in-Ok-Some.first (rw c.in-Ok-Some.field-0-is at c.in-Ok-Some.ensures.drawn) (_, record { shown = _; shows = refl; called = c.in-Ok.ensures }, refl) c.in-Ok-Some-draw.second (rw c.in-Ok-Some-draw.field-0-is at c.in-Ok-Some-draw.ensures.drawn) (_, record { shown = _; shows = refl; called = c.in-Ok-f.ensures }, c.lesser_key_first.ensures) (rw c.in-Ok-Some-drive.field-0-is at c.in-Ok-Some-drive.ensures), refl)
+returns-in-Ok-Some-drive g c = (_, _, fold_drains_stopped_after_two_draws (MinMaxKeyCall g.K.Ord.cmp (call_by_reference g.F.FnMut)) _ c.in-Ok-Some.first (rw c.in-Ok-Some.field-0-is at c.in-Ok-Some.ensures.drawn) (_, record { shown = _; shows = refl; called = c.in-Ok.ensures }, refl) c.in-Ok-Some-draw.second (rw c.in-Ok-Some-draw.field-0-is at c.in-Ok-Some-draw.ensures.drawn) (_, record { shown = _; shows = refl; called = c.in-Ok-f.ensures }, rw c.cmp.ensures at c.lesser_first.ensures) (rw c.in-Ok-Some-drive.field-0-is at c.in-Ok-Some-drive.ensures), refl)
 
 pub returns : goal.returns
-returns g c = (_, _, fold_drains_failed_after_two_draws (MinMaxKeyCall g.K.Ord.cmp (call_by_reference g.F.FnMut)) _ c.in-Ok-Some.first (rw c.in-Ok-Some.field-0-is at c.in-Ok-Some.ensures.drawn) (_, record { shown = _; shows = refl; called = c.in-Ok.ensures }, refl) c.in-Ok-Some-draw.second (rw c.in-Ok-Some-draw.field-0-is at c.in-Ok-Some-draw.ensures.drawn) (_, record { shown = _; shows = refl; called = c.in-Ok-f.ensures }, c.lesser_key_first.ensures) c.in-Err-drive.ensures, refl)
+returns g c = (_, _, fold_drains_failed_after_two_draws (MinMaxKeyCall g.K.Ord.cmp (call_by_reference g.F.FnMut)) _ c.in-Ok-Some.first (rw c.in-Ok-Some.field-0-is at c.in-Ok-Some.ensures.drawn) (_, record { shown = _; shows = refl; called = c.in-Ok.ensures }, refl) c.in-Ok-Some-draw.second (rw c.in-Ok-Some-draw.field-0-is at c.in-Ok-Some-draw.ensures.drawn) (_, record { shown = _; shows = refl; called = c.in-Ok-f.ensures }, rw c.cmp.ensures at c.lesser_first.ensures) c.in-Err-drive.ensures, refl)
