@@ -9,14 +9,14 @@ use Rattle.fallible_iterator.specs.Comparing.{equal_where, read_as, reads_eq, wh
 use Rattle.fallible_iterator.specs.Folds.{goes_on}
 use Rattle.fallible_iterator.specs.Lists.{on_value, unless_equal}
 use Rattle.fallible_iterator.specs.Traces.{Answered, Run, Yields, item}
-use Rattle.fallible_itertools.specs.Stepping.{Flow, consumed, rest_stepped, stops_where, whether_stopped}
+use Rattle.fallible_itertools.specs.Stepping.{KeptAndControlFlow, consumed, rest_stepped, stops_where, whether_stopped}
 
 -- ---- Items that equal one item
 
 -- ---- `contains`
 
 -- Nothing is kept. An item that equals the wanted one stops the fold.
-abbrev pub wanted_flow : {A : Type 0} → (A → A → Bool) → A → Unit {0} → A → Flow (Unit {0}) (Unit {0})
+abbrev pub wanted_flow : {A : Type 0} → (A → A → Bool) → A → Unit {0} → A → KeptAndControlFlow (Unit {0}) (Unit {0})
 wanted_flow eq wanted u x = stops_where (eq x wanted) tt tt
 
 -- whether an item equals the wanted one; or the failure that comes before such an item
@@ -30,7 +30,7 @@ rest_contained eq wanted l = rest_stepped (wanted_flow eq wanted) tt l
 -- ---- `all_equal` and `all_equal_value`
 
 -- The first item is kept. An item that it doesn't equal stops the fold.
-abbrev pub equal_flow : {A : Type 0} → (A → A → Bool) → Option A → A → Flow A (Option A)
+abbrev pub equal_flow : {A : Type 0} → (A → A → Bool) → Option A → A → KeptAndControlFlow A (Option A)
 equal_flow eq None x = (Continue tt, Some x)
 equal_flow eq (Some first) x = stops_where (not (eq first x)) x (Some first)
 

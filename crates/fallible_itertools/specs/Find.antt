@@ -4,7 +4,7 @@ use Rattle.std.specs.declared.ops.ControlFlow.TheVariants.{Continue, Break}
 use Rattle.fallible_iterator.specs.Folds.{Drained}
 use Rattle.fallible_iterator.specs.Lists.{searched, each_done, found, position_in, failures_mapped, stopped_or}
 use Rattle.fallible_iterator.specs.Traces.{Answered}
-use Rattle.fallible_itertools.specs.Stepping.{Flow, consumed, stop_or_kept}
+use Rattle.fallible_itertools.specs.Stepping.{KeptAndControlFlow, consumed, stop_or_kept}
 use Rattle.fallible_itertools.specs.declared.find.NotOne.{NotOne}
 use Rattle.fallible_itertools.specs.declared.find.NotOne.TheVariants.{NoItem, More}
 
@@ -20,7 +20,7 @@ abbrev pub last_kept : {A : Type 0} → Option A → A → Option A
 last_kept kept x = Some x
 
 -- an item that passes stops the fold, and where it goes on `keep` says what is kept
-abbrev pub find_flow : {A E : Type 0} → (Option A → A → Option A) → Option A → A → Result Bool E → Flow (Result (Option A) E) (Option A)
+abbrev pub find_flow : {A E : Type 0} → (Option A → A → Option A) → Option A → A → Result Bool E → KeptAndControlFlow (Result (Option A) E) (Option A)
 find_flow keep kept x (Ok true) = (Break (Ok (Some x)), kept)
 find_flow keep kept x (Ok false) = (Continue tt, keep kept x)
 find_flow keep kept x (Err e) = (Break (Err e), kept)

@@ -69,13 +69,13 @@ how_many test [] = 0
 how_many test (x ∷ items) = cond (test x) (how_many test items + 1) (how_many test items)
 
 -- the number, unless it is 0
-abbrev pub above_zero : ℕ → Option ℕ
-above_zero zero = None
-above_zero (suc n) = Some (suc n)
+abbrev pub unless_zero : ℕ → Option ℕ
+unless_zero zero = None
+unless_zero (suc n) = Some (suc n)
 
 -- how many of the items equal k, if any does
 abbrev pub times : {K : Type 0} → (K → K → Bool) → List K → K → Option ℕ
-times eq items k = above_zero (how_many (eq k) items)
+times eq items k = unless_zero (how_many (eq k) items)
 
 -- The map has the items, of equal ones the first, each beside the number of times that it comes.
 pub record IsCountsOf {K S : Type 0} (eq : K → K → Bool) (items : List K) (m : HashMap K ℕ S) : Type 0 where

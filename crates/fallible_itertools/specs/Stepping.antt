@@ -8,11 +8,11 @@ use Rattle.fallible_iterator.specs.Searching.{search_answer}
 use Rattle.fallible_itertools_adapters.specs.Staging.{Plan, calls, makes, plan_takes}
 
 -- the fold goes on or stops, and this is kept then
-abbrev pub Flow : Type 0 → Type 0 → Type 0
-Flow R C = ControlFlow R (Unit {0}) × C
+abbrev pub KeptAndControlFlow : Type 0 → Type 0 → Type 0
+KeptAndControlFlow R C = ControlFlow R (Unit {0}) × C
 
 -- the fold stops with r where the answer is true, and this is kept
-abbrev pub stops_where : {R C : Type 0} → Bool → R → C → Flow R C
+abbrev pub stops_where : {R C : Type 0} → Bool → R → C → KeptAndControlFlow R C
 stops_where stops r kept = (cond stops (Break r) (Continue tt), kept)
 
 -- a step that calls nothing, and one that calls on the item
@@ -33,7 +33,7 @@ made_by h (makes t) = t
 made_by h (calls q by) = by (h q)
 
 -- The state of the fold is what is kept, and what is called; `step` says what comes of an item.
-module _ {A C F Q V R : Type 0} (call : F → Q → V → F → Type 0) (step : C → A → Plan Q V (Flow R C)) where
+module _ {A C F Q V R : Type 0} (call : F → Q → V → F → Type 0) (step : C → A → Plan Q V (KeptAndControlFlow R C)) where
   abbrev pub StepTurns : C × F → A → ControlFlow R (Unit {0}) → C × F → Type 0
   StepTurns p x flow q = Made call (step p.0 x) p.1 (flow, q.0) q.1
 
@@ -60,12 +60,12 @@ module _ {A C F Q V R : Type 0} (call : F → Q → V → F → Type 0) (step : 
 -- ---- over a list
 
 -- what is answered and kept where the fold stops, and what stands then; or what comes later
-abbrev pub on_flow : {E R C L : Type 0} → Flow R C → L → (C → Answered R E × C × L) → Answered R E × C × L
+abbrev pub on_flow : {E R C L : Type 0} → KeptAndControlFlow R C → L → (C → Answered R E × C × L) → Answered R E × C × L
 on_flow (Continue u, kept) here later = later kept
 on_flow (Break r, kept) here later = (Ok (Some r), kept, here)
 
 -- Of what is kept and an item `flow` says how the fold goes on.
-module _ {A C R E : Type 0} (flow : C → A → Flow R C) where
+module _ {A C R E : Type 0} (flow : C → A → KeptAndControlFlow R C) where
   -- what the fold of the list answers, what it keeps, and what stands after the item or the failure at which it stops
   abbrev pub stepped : C → List (Result A E) → Answered R E × C × List (Result A E)
   stepped c [] = (Ok None, c, [])

@@ -55,9 +55,9 @@ module _ {A : Type 0} where
   SameHeld (Some v) (Some w) = vec_items w ≡ vec_items v
 
   -- x is put after the items that are held; or an allocation fails, and the same items are held
-  abbrev pub Puts : {E : Type 0} → (AllocError → E → Type 0) → Option (Vec A Global) → A → Put (Vec A Global) E → Type 0
-  Puts from held x (Ok w) = Grown held x w
-  Puts from held x (Err (kept, e)) = IsRefusal from e × NoRoom held × SameHeld held kept
+  abbrev pub PutsLastOrRefused : {E : Type 0} → (AllocError → E → Type 0) → Option (Vec A Global) → A → Put (Vec A Global) E → Type 0
+  PutsLastOrRefused from held x (Ok w) = Grown held x w
+  PutsLastOrRefused from held x (Err (kept, e)) = IsRefusal from e × NoRoom held × SameHeld held kept
 
   -- the same of lists
   abbrev pub put_last : {E : Type 0} → Option (List A) → A → Put (List A) E
@@ -106,7 +106,7 @@ batches_hint h k = (div_ceil k.0 (max h.0 1), fitting_sum k.1 (Some (held_one h.
 module _ {A E : Type 0} (from : AllocError → E → Type 0) where
   -- Nothing but an allocation is called. What is true or false is whether the last batch was whole, by which no item goes: the next one takes room by it.
   abbrev pub puts : Bool → Option (Vec A Global) × A → Put (Vec A Global) E → Bool → Type 0
-  puts whole q v next = Puts from q.0 q.1 v
+  puts whole q v next = PutsLastOrRefused from q.0 q.1 v
 
   -- its rule
   abbrev pub chunks_rule : Rule ((ℕ × Option (Vec A Global)) × Bool) A (Vec A Global) (Option E) E
@@ -206,7 +206,7 @@ takes_key g f q = takes_by_reference g f q.1
 module _ {F A K E : Type 0} (from : AllocError → E → Type 0) (eq : K → K → Bool) (g : Mut F (Bor A × Unit {0}) (Result K E)) where
   -- The closure is called once, and an item with a key is put after those of its group.
   abbrev pub puts_by_key : F → Option (Group K A) × A → KeyedPut K (Vec A Global) E → F → Type 0
-  puts_by_key f q (Ok (k, v)) h = call_by_reference g f q.1 (Ok k) h × Puts from (items_of_key eq q.0 k) q.1 v
+  puts_by_key f q (Ok (k, v)) h = call_by_reference g f q.1 (Ok k) h × PutsLastOrRefused from (items_of_key eq q.0 k) q.1 v
   puts_by_key f q (Err e) h = call_by_reference g f q.1 (Err e) h
 
   -- its rule

@@ -35,5 +35,5 @@ abbrev pub copied_parts : {I : Type 0} → Copied I → I × Unit {0}
 copied_parts s = (copied_source s, tt)
 
 -- and back
-pub copied_made : {I : Type 0} → Inverse (copied_parts {I = I})
-copied_made = record { make = λ p. record { it = p.0 }; made = λ s. refl; has = λ p. refl }
+pub copied_of_parts : {I : Type 0} → Inverse (copied_parts {I = I})
+copied_of_parts = record { make = λ p. record { it = p.0 }; made = λ s. refl; has = λ p. refl }

@@ -5,7 +5,7 @@ ghost use Rattle.std.specs.declared.alloc.Global.{Global};
 ghost use Rattle.std.specs.declared.vec.Vec.{Vec};
 ghost use Rattle.fallible_iterator.specs.Contract.{parts_as};
 ghost use Rattle.fallible_iterator.specs.Laws.Contract.{lawful_parts};
-ghost use Rattle.fallible_itertools_adapters.specs.Chunks.{GrownTo, NoRoom, Put, Puts, SameHeld, chunk_by_contract, chunk_by_made, chunk_by_parts, chunks_contract, chunks_made, chunks_parts, chunks_plan, chunks_stops, group_by, items_of_key, puts, vec_count, chunk_by_rule, chunks_rule};
+ghost use Rattle.fallible_itertools_adapters.specs.Chunks.{GrownTo, NoRoom, Put, PutsLastOrRefused, SameHeld, chunk_by_contract, chunk_by_made, chunk_by_parts, chunks_contract, chunks_made, chunks_parts, chunks_plan, chunks_stops, group_by, items_of_key, puts, vec_count, chunk_by_rule, chunks_rule};
 ghost use Rattle.fallible_itertools_adapters.specs.Staging.{DrawsUpTo, IsTransition, plan_meets, stop_comes};
 ghost use Rattle.fallible_itertools_adapters.specs.Laws.Chunks.{is_stage_chunk_by, is_stage_chunks, lawful_chunk_by, lawful_chunks};
 
@@ -323,7 +323,7 @@ fn grouped<X: Drop, K: PartialEq + Drop, E: From<AllocError>>(
     key: K,
     item: X,
 ) -> Emitted<(K, Vec<X>), Stop<E>, E>
-    ensures { (v : Put (Vec X Global) E) × Puts E.from_gives (items_of_key K.eq group.old key) item v
+    ensures { (v : Put (Vec X Global) E) × PutsLastOrRefused E.from_gives (items_of_key K.eq group.old key) item v
         × IsTransition (group_by K.eq group.old (Ok (key, v))) result group.new }
 {
     let room = match group {

@@ -4,7 +4,7 @@ ghost use Rattle.fallible_iterator.specs.Contract.{parts_as};
 ghost use Rattle.fallible_iterator.specs.Ends.{from_back, ends_of, ends_parts_as};
 ghost use Rattle.fallible_iterator.specs.Laws.Contract.{lawful_parts};
 ghost use Rattle.fallible_iterator.specs.Laws.Ends.{lawful_ends_parts};
-ghost use Rattle.fallible_itertools_adapters.specs.Copied.{copied_call, copied_contract, copied_outcome, copied_made, copied_parts};
+ghost use Rattle.fallible_itertools_adapters.specs.Copied.{copied_call, copied_contract, copied_outcome, copied_of_parts, copied_parts};
 ghost use Rattle.fallible_itertools_adapters.specs.Laws.Copied.{lawful_copied, lawful_ends_copied};
 
 use fallible_iterator::extending::{Outcome, Pass, drive_back_passing, drive_passing, passed};
@@ -50,7 +50,7 @@ impl<'a, T: Copy + 'a, I: FallibleIterator<Item = &'a T>> FallibleIterator for C
         drive_passing(&mut self.it, &mut (), &CopyPass, state, turn)
     }
 
-    ghost lawful = { lawful_parts copied_made (lawful_copied I.lawful) };
+    ghost lawful = { lawful_parts copied_of_parts (lawful_copied I.lawful) };
 }
 
 impl<'a, T: Copy + 'a, I: DoubleEndedFallibleIterator<Item = &'a T>> DoubleEndedFallibleIterator
@@ -71,7 +71,7 @@ impl<'a, T: Copy + 'a, I: DoubleEndedFallibleIterator<Item = &'a T>> DoubleEnded
         drive_back_passing(&mut self.it, &mut (), &CopyPass, state, turn)
     }
 
-    ghost lawful_ends = { lawful_ends_parts copied_made (lawful_ends_copied I.lawful_ends) };
+    ghost lawful_ends = { lawful_ends_parts copied_of_parts (lawful_ends_copied I.lawful_ends) };
 }
 
 // A copy of what an item points to. It keeps no state.

@@ -2,7 +2,7 @@
 ghost use Rattle.std.specs.Prelude.{◌≡◌, Some, None, Ok, Err};
 ghost use Rattle.fallible_iterator.specs.Folds.{CallableDriving, Driven, TurnThrough, beside, beside_names};
 ghost use Rattle.fallible_iterator.specs.Passing.{IfItem};
-ghost use Rattle.fallible_itertools_adapters.specs.Staging.{before_stop, held_hint, DrawsUpTo, DueTakes, DueTold, IsStage, EmittedTakes, EmittedTold, Met, MetTakes, PassesNoneOver, Rule, StageTurns, TakesAll, Told, due_gives, rule_meets, stage_step, stop_answer, hint_unless_end};
+ghost use Rattle.fallible_itertools_adapters.specs.Staging.{before_stop, held_hint, DrawsUpTo, DueTakes, TurnsOnDue, IsStage, EmittedTakes, EmittedTold, Met, MetTakes, PassesNoneOver, Rule, StageTurns, TakesAll, Told, due_gives, rule_meets, stage_step, stop_answer, hint_unless_end};
 ghost use Rattle.std.specs.declared.ops.ControlFlow.TheVariants.{Break};
 
 use fallible_iterator::extending::Beside;
@@ -170,7 +170,7 @@ fn tell_due<P, X, E, G: Stage<P, X, E>, C, R, K: Turn<C, G::Kept, R>>(
     turn: &K,
 ) -> ControlFlow<AnswerAndDue<R, G::Due, E>, ()>
     requires { DueTakes (K.turns turn.now) G.rule.comes (K.can_turn turn.now) state.old due }
-    ensures { DueTold (K.turns turn.now) G.rule.comes state.old due result state.new }
+    ensures { TurnsOnDue (K.turns turn.now) G.rule.comes state.old due result state.new }
 {
     match due {
         None => ControlFlow::Continue(()),

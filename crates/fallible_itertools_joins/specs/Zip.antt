@@ -160,9 +160,9 @@ zipped_equal e a b = map (pair_or e) (zipped_longest a b)
 -- ---- the indices below n
 
 -- h i, h (i + 1) and so on, so many
-abbrev pub from_index : {A : Type 0} → (ℕ → A) → ℕ → ℕ → List A
-from_index h i zero = []
-from_index h i (suc k) = h i ∷ from_index h (suc i) k
+abbrev pub values_from_index : {A : Type 0} → (ℕ → A) → ℕ → ℕ → List A
+values_from_index h i zero = []
+values_from_index h i (suc k) = h i ∷ values_from_index h (suc i) k
 
 -- the next index, if one is left; the parts are that index and n
 abbrev pub NextIndex : ℕ × ℕ → Option ℕ → ℕ × ℕ → Type 0
@@ -177,7 +177,7 @@ index_step p (Err e) q = ⊥
 pub record IndexTrace {E : Type 0} (p : ℕ × ℕ) (trace : List (Answered ℕ E)) (q : ℕ × ℕ) : Type 0 where
   pub count : ℕ
   pub ends : ℕ
-  pub answers : trace ≡ from_index (λ i. item i) p.0 count ++ replicate ends end
+  pub answers : trace ≡ values_from_index (λ i. item i) p.0 count ++ replicate ends end
   pub within : count ≤ p.1 - p.0
   pub over : 0 < ends → p.1 - p.0 ≤ count
   pub left : q ≡ (p.0 + count, p.1)
@@ -247,4 +247,4 @@ pad_using_closure s = (pad_using_parts s).2
 
 -- The list, and then h i for each index i below n that no item has. A failure of the list counts as no item.
 unfoldable pub padded : {A E : Type 0} → ℕ → (ℕ → Result A E) → List (Result A E) → List (Result A E)
-padded n h l = l ++ from_index h (length (items_listed l)) (n - length (items_listed l))
+padded n h l = l ++ values_from_index h (length (items_listed l)) (n - length (items_listed l))

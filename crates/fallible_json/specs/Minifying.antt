@@ -22,9 +22,9 @@ bytes_of_all text [] = []
 bytes_of_all text (x ∷ xs) = bytes_of text x.0 x.1 ++ bytes_of_all text xs
 
 -- by what a token makes of the state: where it may not stand, and where it may
-abbrev pub where_taken : Option State → State → (State → State) → State
-where_taken (Some next) state goes = goes next
-where_taken None state goes = state
+abbrev pub by_whether_taken : Option State → State → (State → State) → State
+by_whether_taken (Some next) state goes = goes next
+by_whether_taken None state goes = state
 
 module _ {E : Type 0} where
   -- what a token leaves: the state after it, if it may stand there, and the text with its bytes
@@ -33,8 +33,8 @@ module _ {E : Type 0} where
   moved first json None = Err (Unexpected first)
 
   -- what one token makes of the state and of the text so far
-  abbrev pub with_lexeme : List ℕ → State × List ℕ → Lexeme → Result (State × List ℕ) (Misplaced E)
-  with_lexeme text b x = moved x.0 (b.1 ++ bytes_of text x.0 x.1) (after_token b.0 x.2)
+  abbrev pub after_lexeme : List ℕ → State × List ℕ → Lexeme → Result (State × List ℕ) (Misplaced E)
+  after_lexeme text b x = moved x.0 (b.1 ++ bytes_of text x.0 x.1) (after_token b.0 x.2)
 
   -- what it comes to at the end: the text, where the tokens are one JSON text
   abbrev pub ended : Bool → List ℕ → Result (List ℕ) (Misplaced E)
@@ -43,7 +43,7 @@ module _ {E : Type 0} where
 
   -- what it comes to from here on
   abbrev pub minified_from : List ℕ → State × List ℕ → List (Result Lexeme E) → Result (List ℕ) (Misplaced E)
-  minified_from text b l = on_value (folded (λ e. Source e) (with_lexeme text) b l) (λ c. ended (is_whole c.0) c.1)
+  minified_from text b l = on_value (folded (λ e. Source e) (after_lexeme text) b l) (λ c. ended (is_whole c.0) c.1)
 
   -- The bytes of the tokens of a text, one after the other, where these are one JSON text; or the first fault: of the source, of a token that may not stand where it stands, or of the end.
   abbrev pub minified : List ℕ → List (Result Lexeme E) → Result (List ℕ) (Misplaced E)
@@ -54,7 +54,7 @@ module _ {E : Type 0} where
   -- the state before the first token that may not stand where it stands, before a failure, or at the end
   unfoldable pub state_at : State → List (Result Lexeme E) → State
   state_at state [] = state
-  state_at state (Ok x ∷ l) = where_taken (after_token state x.2) state (λ next. state_at next l)
+  state_at state (Ok x ∷ l) = by_whether_taken (after_token state x.2) state (λ next. state_at next l)
   state_at state (Err e ∷ l) = state
 
   -- a fault, with what could come there

@@ -13,8 +13,8 @@ Rule = List ℕ → Type 0
 infixr 30 ◌then◌
 infixr 20 ◌or◌
 -- these bytes
-abbrev pub Just : List ℕ → Rule
-Just text bytes = bytes ≡ text
+abbrev pub Exactly : List ℕ → Rule
+Exactly text bytes = bytes ≡ text
 
 -- this byte
 abbrev pub Byte : ℕ → Rule
@@ -101,7 +101,7 @@ IsString = Byte 34 then Many IsChar then Byte 34
 
 -- `true`, `false` or `null`
 abbrev pub IsLiteral : Rule
-IsLiteral = Just (codes "true") or Just (codes "false") or Just (codes "null")
+IsLiteral = Exactly (codes "true") or Exactly (codes "false") or Exactly (codes "null")
 
 -- the bytes of each token: brackets, braces, the colon and the comma are one
 abbrev pub IsSpelled : Token → Rule

@@ -12,7 +12,7 @@ use Rattle.fallible_pg.specs.Sizes.{IsMessage}
 use Rattle.fallible_pg.specs.Text.{Form}
 use Rattle.fallible_pg.specs.Turns.{Turn, refused, damaged, turn_by, turns_of}
 use Rattle.fallible_pg.proofs.TurnLaw.{known_left, consumes_given, turns_last, turns_ended, turns_broken}
-use Rattle.fallible_pg.proofs.Lemmas.Turn.{turns_of-message}
+use Rattle.fallible_pg.proofs.Lemmas.Turn.{turns_of_first_message}
 use Rattle.fallible_pg.specs.declared.kind.Kind.{Kind}
 use Rattle.fallible_pg.specs.declared.fault.Damage.{Damage}
 use Rattle.fallible_pg.specs.declared.fault.Damage.TheVariants as What
@@ -53,7 +53,7 @@ whole_of_passed recorded m (inr (inr h)) = h.0
 
 module _ (recorded : Bool) where
   turns_message : (reached : Reached) → reached.recorded ≡ recorded → (place : ℕ) (m rest : List ℕ) → IsPassed recorded m → turns_of reached place (m ++ rest) ≡ turn_by (kind_of recorded m) place m reached (λ next. turns_of next (place + length m) rest)
-  turns_message reached same place m rest is = turns_of-message reached place m rest (whole_of_passed recorded m is) ∙ ap (λ (b : Bool). turn_by (kind_of b m) place m reached (λ next. turns_of next (place + length m) rest)) same
+  turns_message reached same place m rest is = turns_of_first_message reached place m rest (whole_of_passed recorded m is) ∙ ap (λ (b : Bool). turn_by (kind_of b m) place m reached (λ next. turns_of next (place + length m) rest)) same
 
   -- messages that are passed, before what comes after them, by what is made of each
   module _ (by : Kind → List ℕ → List ℕ) (made : List Turn → List ℕ) (passes : (reached : Reached) (place : ℕ) (m : List ℕ) (turns : Reached → List Turn) → IsPassed recorded m → made (turn_by (kind_of recorded m) place m reached turns) ≡ by (kind_of recorded m) m ++ made (turns (came (kind_of recorded m) m reached))) where

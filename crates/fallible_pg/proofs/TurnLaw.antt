@@ -13,7 +13,7 @@ use Rattle.fallible_pg.specs.Sizes.{first_size}
 use Rattle.fallible_pg.specs.Turns.{Turn, damaged, turn_by, turns_at_end, turns_of, AnswersTurn, GivesTurns}
 use Rattle.fallible_pg.proofs.Lemmas.Draw.{draws_bytes_of}
 use Rattle.fallible_pg.proofs.Lemmas.Size.{has_size, first_size-length}
-use Rattle.fallible_pg.proofs.Lemmas.Turn.{turns_of-message, turns_of-damage, turns_of-none, turns_of-skipped}
+use Rattle.fallible_pg.proofs.Lemmas.Turn.{turns_of_first_message, turns_of-damage, turns_of-none, turns_of-skipped}
 use Rattle.fallible_pg.specs.declared.fault.Damage.{Damage}
 use Rattle.fallible_pg.specs.declared.fault.Damage.TheVariants as What
 use Rattle.fallible_pg.specs.declared.fault.PgFault.{PgFault}
@@ -45,7 +45,7 @@ module _ {R : Type 0} (left : R → Option (List ℕ)) (stays : Bool → R → R
     pub turns_last : {kind : Kind} (m : List ℕ) (q : R) → ReadsKind left stays reached.recorded kind m last q → (rest : List ℕ) × (turns_of reached place bytes ≡ turn_by kind place m reached (λ next. turns_of next (place + length m) rest))
     turns_last {kind = kind} m q h =
         let k = known_left (left last) (left q) m bytes known (consumes_given m last q h.1) in
-        (k.0, ap (turns_of reached place) k.2 ∙ turns_of-message reached place m k.0 h.0.0 ∙ ap (λ (d : Kind). turn_by d place m reached (λ next. turns_of next (place + length m) k.0)) h.0.1)
+        (k.0, ap (turns_of reached place) k.2 ∙ turns_of_first_message reached place m k.0 h.0.0 ∙ ap (λ (d : Kind). turn_by d place m reached (λ next. turns_of next (place + length m) k.0)) h.0.1)
 
     -- the end, after the server was ready or not
     pub turns_ended : (ready : Bool) (q : R) → EndsAt left stays ready reached last q → turns_of reached place bytes ≡ turns_at_end ready place
@@ -116,7 +116,7 @@ module _ {R : Type 0} (left : R → Option (List ℕ)) (stays : Bool → R → R
         ∙ ap (λ (u : Reached). (((rows_parts t).0.0, Some (place + length m)), u, (rows_parts t).2)) next
         ∙ ap (λ (b : Bool). (((rows_parts t).0.0, Some (place + length m)), came kind m reached, b)) going in (
           k.0,
-          ap (turns_of reached place) k.2 ∙ turns_of-message reached place m k.0 h.0.0 ∙ ap (λ (d : Kind). turn_by d place m reached (λ after. turns_of after (place + length m) k.0)) h.0.1,
+          ap (turns_of reached place) k.2 ∙ turns_of_first_message reached place m k.0 h.0.0 ∙ ap (λ (d : Kind). turn_by d place m reached (λ after. turns_of after (place + length m) k.0)) h.0.1,
           fewer t (rows_parts t).0.0 (place + length m) (came kind m reached) k.0 (omega (arith, long, five, few)) is k.1 (omega (arith, long, fits)),
         )
 

@@ -11,12 +11,12 @@ use Rattle.fallible_pg.specs.declared.scram.Answer.{Answer}
 -- ---- what a client says first
 
 -- what a client says first, by a text of its own that no one can guess, without what comes before it
-abbrev pub first_bare : List ℕ → List ℕ
-first_bare nonce = codes "n=,r=" ++ nonce
+abbrev pub client_first_bare : List ℕ → List ℕ
+client_first_bare nonce = codes "n=,r=" ++ nonce
 
 -- what it says first: that it binds to no channel, and this
 abbrev pub first_words : List ℕ → List ℕ
-first_words nonce = codes "n,," ++ first_bare nonce
+first_words nonce = codes "n,," ++ client_first_bare nonce
 
 -- the message by which it says so: the mechanism's name, how many words, and the words
 abbrev pub sent_first : List ℕ → List ℕ
@@ -64,7 +64,7 @@ unproved_words nonce = codes "c=biws,r=" ++ nonce
 
 -- all that was said, of which both prove that they know the password
 abbrev pub said_words : List ℕ → List ℕ → List ℕ → List ℕ
-said_words own asked nonce = first_bare own ++ 44 ∷ asked ++ 44 ∷ unproved_words nonce
+said_words own asked nonce = client_first_bare own ++ 44 ∷ asked ++ 44 ∷ unproved_words nonce
 
 -- the first so many bytes of two texts, joined by exclusive or
 unfoldable pub xored : ℕ → List ℕ → List ℕ → List ℕ

@@ -35,8 +35,8 @@ pub record ReadsPrefix (old new : Option (List ℕ)) (bytes : List ℕ) : Type 0
   pub same_report : IfSome old (λ known. report bytes ≡ report known)
 
 -- a reader lost some first bytes of those that it had, where these are known, at most `u64::MAX`, and no others
-abbrev pub TakesFromPrefix : Option (List ℕ) → Option (List ℕ) → Type 0
-TakesFromPrefix old new = (bytes : List ℕ) × Consumes old new bytes × (length bytes ≤ byte_limit)
+abbrev pub LosesPrefix : Option (List ℕ) → Option (List ℕ) → Type 0
+LosesPrefix old new = (bytes : List ℕ) × Consumes old new bytes × (length bytes ≤ byte_limit)
 
 -- the prefix was read, and its report was written, and nothing else
 abbrev pub WritesReport : Option (List ℕ) → Option (List ℕ) → Option (List ℕ) → Option (List ℕ) → Type 0

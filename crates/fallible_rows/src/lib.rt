@@ -9,7 +9,7 @@ pub mod laws;
 mod rows;
 mod summing;
 
-ghost use Rattle.fallible_rows.specs.Run.{ComesTo, TakesFromPrefix};
+ghost use Rattle.fallible_rows.specs.Run.{ComesTo, LosesPrefix};
 
 pub use fault::{BadRow, RowFault};
 use program_io::fault::RunFault;
@@ -31,7 +31,7 @@ pub fn run<R: ReadByte, W: WriteText>(
 ) -> Result<(), RunFault<BadRow>>
     ensures outcome { ComesTo R.left R.stays reader.old reader.new W.failed
         (W.written writer.old) (W.written writer.new) writer.new result }
-    ensures taken { TakesFromPrefix (R.left reader.old) (R.left reader.new) }
+    ensures taken { LosesPrefix (R.left reader.old) (R.left reader.new) }
 {
     // Unused: the `run` of each program is called in one form, and the others allocate. `Memory` is for the caller, since the allocation of its buffer may fail.
     let _ = alloc;

@@ -30,13 +30,13 @@ place_below_dwarf64_end : (bytes : List ℕ) (limit place : ℕ) (set : Set) →
 unfolding dwarf64_set
 place_below_dwarf64_end bytes limit place set e = let h = ap (λ (s : Set). s.end) (set_is_made (first_fault (dwarf64_checks bytes limit place)) _ set e) in omega (arith, h)
 
-place_below_either_end : (long : Bool) (bytes : List ℕ) (limit place : ℕ) (set : Set) → (if long then dwarf64_set bytes limit place else dwarf32_set bytes limit place) ≡ Ok set → place < set.end
-place_below_either_end true bytes limit place set e = place_below_dwarf64_end bytes limit place set e
-place_below_either_end false bytes limit place set e = place_below_dwarf32_end bytes limit place set e
+place_below_end_of_set : (long : Bool) (bytes : List ℕ) (limit place : ℕ) (set : Set) → (if long then dwarf64_set bytes limit place else dwarf32_set bytes limit place) ≡ Ok set → place < set.end
+place_below_end_of_set true bytes limit place set e = place_below_dwarf64_end bytes limit place set e
+place_below_end_of_set false bytes limit place set e = place_below_dwarf32_end bytes limit place set e
 
 place_below_end : (bytes : List ℕ) (limit place : ℕ) (set : Set) → set_at bytes limit place ≡ Ok set → place < set.end
 unfolding set_at
-place_below_end bytes limit place set e = place_below_either_end (is_dwarf64 bytes place) bytes limit place set (set_made_by_words (first_fault (form_checks bytes limit place)) _ set e)
+place_below_end bytes limit place set e = place_below_end_of_set (is_dwarf64 bytes place) bytes limit place set (set_made_by_words (first_fault (form_checks bytes limit place)) _ set e)
 
 -- where two bounds on how many come are large enough, the same sets come
 set_then_alike : (bytes : List ℕ) (limit place : ℕ) (y : Result Set ElfFault) (rest rest' : Set → List (Result Set ElfFault)) → ((set : Set) → y ≡ Ok set → rest set ≡ rest' set) → set_then y rest ≡ set_then y rest'

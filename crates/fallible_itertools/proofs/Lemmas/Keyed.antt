@@ -30,7 +30,7 @@ use Rattle.fallible_iterator.proofs.Lemmas.Collecting.Keyed.{hashed_map_of_pairs
 use Rattle.fallible_iterator.proofs.Lemmas.Contract.{bound_at_most_of_at_most}
 use Rattle.fallible_iterator.proofs.Lemmas.Lists.Drawn.{drawn_of_lists}
 use Rattle.fallible_iterator.proofs.Lemmas.Lists.Passing.{passed, by_outcome, lists_seen, always_gives_passed}
-use Rattle.fallible_itertools.specs.Keyed.{keyed_outcome, keyed_parts, keyed_contract, with_key, keyed, how_many, above_zero, times, IsCountsOf, IsTally, values_where, unless_empty, values_of_key, IsGroupMapOf, IsGrouping, GroupRefuses, value_at, last_value, AddsValue, FoldFails, FoldRefused, IsKeyFoldTurn, KeyFolds, FoldsByKey, fold_of, IsKeyFoldOf, unless_failed, checked_folds}
+use Rattle.fallible_itertools.specs.Keyed.{keyed_outcome, keyed_parts, keyed_contract, with_key, keyed, how_many, unless_zero, times, IsCountsOf, IsTally, values_where, unless_empty, values_of_key, IsGroupMapOf, IsGrouping, GroupRefuses, value_at, last_value, AddsValue, FoldFails, FoldRefused, IsKeyFoldTurn, KeyFolds, FoldsByKey, fold_of, IsKeyFoldOf, unless_failed, checked_folds}
 use Rattle.fallible_itertools.specs.declared.keyed.Keyed.{Keyed}
 
 -- ---- What `Keyed` lists
@@ -83,16 +83,16 @@ abbrev wrapped : ℕ → ℕ
 wrapped n = n % 2 ^ 64
 
 -- what a number that goes round is, of a count
-unwrap_or_of_wrapped_above_zero_is_wrapped : (n : ℕ) → unwrap_or (option_map wrapped (above_zero n)) 0 ≡ wrapped n
-unwrap_or_of_wrapped_above_zero_is_wrapped zero = refl
-unwrap_or_of_wrapped_above_zero_is_wrapped (suc n) = refl
+unwrap_or_of_wrapped_unless_zero_is_wrapped : (n : ℕ) → unwrap_or (option_map wrapped (unless_zero n)) 0 ≡ wrapped n
+unwrap_or_of_wrapped_unless_zero_is_wrapped zero = refl
+unwrap_or_of_wrapped_unless_zero_is_wrapped (suc n) = refl
 
-above_zero_of_one_more_is_some : (n : ℕ) → above_zero (n + 1) ≡ Some (n + 1)
-above_zero_of_one_more_is_some n = subst (λ (k : ℕ). above_zero k ≡ Some k) (let e : suc n ≡ n + 1 = omega arith in e) refl
+unless_zero_of_one_more_is_some : (n : ℕ) → unless_zero (n + 1) ≡ Some (n + 1)
+unless_zero_of_one_more_is_some n = subst (λ (k : ℕ). unless_zero k ≡ Some k) (let e : suc n ≡ n + 1 = omega arith in e) refl
 
-wrapped_above_zero_is_same_where_fits : (n : ℕ) → n ≤ 2 ^ 64 - 1 → option_map wrapped (above_zero n) ≡ above_zero n
-wrapped_above_zero_is_same_where_fits zero h = refl
-wrapped_above_zero_is_same_where_fits (suc n) h = ap Some (omega (arith, h))
+wrapped_unless_zero_is_same_where_fits : (n : ℕ) → n ≤ 2 ^ 64 - 1 → option_map wrapped (unless_zero n) ≡ unless_zero n
+wrapped_unless_zero_is_same_where_fits zero h = refl
+wrapped_unless_zero_is_same_where_fits (suc n) h = ap Some (omega (arith, h))
 
 -- ---- one more item
 
@@ -106,15 +106,15 @@ module _ {K S : Type 0} {eq : K → K → Bool} (laws : IsEquivalence eq) (m n :
     counted = λ k. updates.0 k ∙ by_cases k (eq x k) refl;
   }
     where
-      times_before : ℕ
-      times_before = how_many (eq x) items
+      count_before : ℕ
+      count_before = how_many (eq x) items
 
-      pushed_value_is_wrapped : v ≡ wrapped (times_before + 1)
-      pushed_value_is_wrapped = is ∙ ap (λ (o : Option ℕ). (unwrap_or o 0 + 1) % 2 ^ 64) (t.counted x) ∙ ap (λ (c : ℕ). (c + 1) % 2 ^ 64) (unwrap_or_of_wrapped_above_zero_is_wrapped times_before) ∙ mod-add-mod times_before (2 ^ 64) 1
+      pushed_value_is_wrapped : v ≡ wrapped (count_before + 1)
+      pushed_value_is_wrapped = is ∙ ap (λ (o : Option ℕ). (unwrap_or o 0 + 1) % 2 ^ 64) (t.counted x) ∙ ap (λ (c : ℕ). (c + 1) % 2 ^ 64) (unwrap_or_of_wrapped_unless_zero_is_wrapped count_before) ∙ mod-add-mod count_before (2 ^ 64) 1
 
       by_cases : (k : K) (b : Bool) → eq x k ≡ b → cond b (Some v) (hash.get eq m k) ≡ option_map wrapped (times eq (items ++ x ∷ []) k)
-      by_cases k true e = ap Some pushed_value_is_wrapped ∙ sym (ap (option_map wrapped) (ap above_zero (how_many_of_one_more (eq k) items x true (laws.symm k x ∙ e) ∙ ap (λ (c : ℕ). c + 1) (how_many_is_same_where_tests_alike (eq k) (eq x) (λ z. sym (laws.congr x k z e)) items)) ∙ above_zero_of_one_more_is_some times_before))
-      by_cases k false e = t.counted k ∙ sym (ap (λ (c : ℕ). option_map wrapped (above_zero c)) (how_many_of_one_more (eq k) items x false (laws.symm k x ∙ e)))
+      by_cases k true e = ap Some pushed_value_is_wrapped ∙ sym (ap (option_map wrapped) (ap unless_zero (how_many_of_one_more (eq k) items x true (laws.symm k x ∙ e) ∙ ap (λ (c : ℕ). c + 1) (how_many_is_same_where_tests_alike (eq k) (eq x) (λ z. sym (laws.congr x k z e)) items)) ∙ unless_zero_of_one_more_is_some count_before))
+      by_cases k false e = t.counted k ∙ sym (ap (λ (c : ℕ). option_map wrapped (unless_zero c)) (how_many_of_one_more (eq k) items x false (laws.symm k x ∙ e)))
 
 -- ---- a drain of few enough items
 
@@ -129,7 +129,7 @@ module _ {S A E C H : Type 0} {m : Contract S A E} (law : Lawful m) {s : S} (can
   -- so the numbers don't go round
   is_counts_of_where_length_fits : (items : List A) (c : C) → length items ≤ 2 ^ 64 - 1 → IsTally eq items (counts c) → IsCountsOf eq items (counts c)
   is_counts_of_where_length_fits items c h t = record {
-    counted = λ k. t.counted k ∙ wrapped_above_zero_is_same_where_fits (how_many (eq k) items) (let w = how_many_within_length (eq k) items in omega (arith, w, h));
+    counted = λ k. t.counted k ∙ wrapped_unless_zero_is_same_where_fits (how_many (eq k) items) (let w = how_many_within_length (eq k) items in omega (arith, w, h));
     first = subst (λ (l : List A). FirstStays eq l (hash.get_key eq (counts c))) t.are t.made.first;
   }
 
@@ -351,8 +351,8 @@ module _ {K B X E : Type 0} {eq : K → K → Bool} (laws : IsEquivalence eq) (h
   fold_up_to_pair : (pairs : List (K × X)) (made : List (K × B)) (p : K × X) → LastValuesAreFolds pairs made → fold_of h init (values_where (eq p.0) (pairs ++ p ∷ [])) ≡ h (last_value eq init made p.0) p.1
   fold_up_to_pair pairs made p are = ap (fold_of h init) (values_where_pushed (eq p.0) pairs p.0 p.1 true (laws.refl p.0)) ∙ folded_of_one_more h init (values_where (eq p.0) pairs) p.1 ∙ ap (λ r. on_value r (λ c. h c p.1)) (fold_is_last_value pairs made p.0 are)
 
-  are_folds_one_more : (pairs : List (K × X)) (made : List (K × B)) (p : K × X) (b : B) → LastValuesAreFolds pairs made → Ok b ≡ h (last_value eq init made p.0) p.1 → LastValuesAreFolds (pairs ++ p ∷ []) (made ++ (p.0, b) ∷ [])
-  are_folds_one_more pairs made p b are is k = ap (option_map (λ c. Ok c)) (sym (update_all_push eq (λ _. None) (update_all eq (λ _. None) made) made (p.0, b) k refl)) ∙ by_cases (eq p.0 k) refl
+  last_values_are_folds_with_one_more : (pairs : List (K × X)) (made : List (K × B)) (p : K × X) (b : B) → LastValuesAreFolds pairs made → Ok b ≡ h (last_value eq init made p.0) p.1 → LastValuesAreFolds (pairs ++ p ∷ []) (made ++ (p.0, b) ∷ [])
+  last_values_are_folds_with_one_more pairs made p b are is k = ap (option_map (λ c. Ok c)) (sym (update_all_push eq (λ _. None) (update_all eq (λ _. None) made) made (p.0, b) k refl)) ∙ by_cases (eq p.0 k) refl
     where
       by_cases : (t : Bool) → eq p.0 k ≡ t → option_map (λ c. Ok c) (cond t (Some b) (update_all eq (λ _. None) made k)) ≡ option_map (fold_of h init) (values_of_key eq (pairs ++ p ∷ []) k)
       by_cases true e = ap Some (is ∙ sym (fold_up_to_pair pairs made p are) ∙ ap (fold_of h init) (values_where_is_same_where_tests_alike (eq p.0) (eq k) (λ z. laws.congr p.0 k z e) (pairs ++ p ∷ [])))
@@ -381,7 +381,7 @@ module _ {K B X E : Type 0} {eq : K → K → Bool} (laws : IsEquivalence eq) (h
     }
     folded_by_calls (p ∷ pairs) before done made g rest are went =
         let a = acts (last_value eq init done p.0) p.1 (Ok went.1.0) went.0.1 went.1.1 in
-        let more = are_folds_one_more before done p went.1.0 are a.1 in
+        let more = last_values_are_folds_with_one_more before done p went.1.0 are a.1 in
         let later = folded_by_calls pairs (before ++ p ∷ []) (done ++ (p.0, went.1.0) ∷ []) made g rest more (subst (λ q. FoldsTo {P = List (K × B) × F} (AddsValue call eq init) (q, f) pairs (made, g)) went.1.2 (subst (λ q. FoldsTo {P = List (K × B) × F} (AddsValue call eq init) (went.0.0, q) pairs (made, g)) a.0 went.2)) in
         record {
           same = later.same;

@@ -59,17 +59,17 @@ module _ {A S E B F : Type 0} (rules : TokenRules A S E B F) where
   others_from true x l is others = rw is (others None)
   others_from false x l is others = rw is (others_begun (rules.begins x) x l others)
 
-  others_goes : (o : Option S) (s : S) (x : A) (l : List (Result A E)) → rules.goes_on s x ≡ o → ((begun : Option S) → Others begun l) → Others (Some s) (Ok x ∷ l)
+  others_after_begun : (o : Option S) (s : S) (x : A) (l : List (Result A E)) → rules.goes_on s x ≡ o → ((begun : Option S) → Others begun l) → Others (Some s) (Ok x ∷ l)
   unfolding lexed_by rest_lexed_by rest_first
-  others_goes (Some t) s x l is others = rw is (others (Some t))
-  others_goes None s x l is others = rw is refl
+  others_after_begun (Some t) s x l is others = rw is (others (Some t))
+  others_after_begun None s x l is others = rw is refl
 
   others_after : (begun : Option S) (l : List (Result A E)) → Others begun l
   unfolding lexed_by rest_lexed_by rest_first
   others_after None [] = refl
   others_after (Some s) [] = refl
   others_after None (Ok x ∷ l) = others_from (rules.skips x) x l refl (λ begun. others_after begun l)
-  others_after (Some s) (Ok x ∷ l) = others_goes (rules.goes_on s x) s x l refl (λ begun. others_after begun l)
+  others_after (Some s) (Ok x ∷ l) = others_after_begun (rules.goes_on s x) s x l refl (λ begun. others_after begun l)
   others_after None (Err e ∷ l) = refl
   others_after (Some s) (Err e ∷ l) = refl
 

@@ -135,17 +135,17 @@ module _ {A E F : Type 0} (call : F → A → A → Result Ordering E → F → 
   answer_and_state_after_least (Err e) a b x r g w = (w.1, w.0)
   answer_and_state_after_least (Ok o) a b x r g w = answer_and_state_after_item_not_less (is_gt o) a b x r g w
 
-  acts_with_item : ActsWith (MinMaxCall call) f (with_item_by h)
-  acts_with_item NoElements x r g c = (c.1, c.0)
-  acts_with_item (OneElement a) x r g c = let d = acts a x c.0 g c.1 in (d.0, c.2 ∙ ap (λ (p : Result Ordering E). on_value p (λ o. Ok (two_in_order a x o))) d.1)
-  acts_with_item (MinMax a b) x r g c =
+  minmax_call_acts : ActsWith (MinMaxCall call) f (with_item_by h)
+  minmax_call_acts NoElements x r g c = (c.1, c.0)
+  minmax_call_acts (OneElement a) x r g c = let d = acts a x c.0 g c.1 in (d.0, c.2 ∙ ap (λ (p : Result Ordering E). on_value p (λ o. Ok (two_in_order a x o))) d.1)
+  minmax_call_acts (MinMax a b) x r g c =
       let d = acts a x c.0 c.1 c.2 in
       let e = answer_and_state_after_least c.0 a b x r g (subst (λ (k : F). AfterLeast call a b x c.0 k r g) d.0 c.3) in
       (e.0, e.1 ∙ ap (λ (p : Result Ordering E). on_value p (λ o. cond (is_gt o) (Ok (MinMax x b)) (on_value (h b x) (λ q. Ok (greatest_in_order a b x q))))) d.1)
 
   pub minmaxed_by_of_lists : {S : Type 0} {steps : S → Answered A E → S → Type 0} {s t : S} {r : Result (MinMaxResult A) E} (l : List (Result A E)) → FoldDrains steps (MinMaxCall call) (λ e d. d ≡ e) s NoElements f r t → Lists steps s l → r ≡ minmaxed_by h l
   unfolding minmaxed_by
-  minmaxed_by_of_lists l c i = folded_of_lists (MinMaxCall call) (λ e d. d ≡ e) (λ e. e) (with_item_by h) f acts_with_item (λ e d k. k) l c i
+  minmaxed_by_of_lists l c i = folded_of_lists (MinMaxCall call) (λ e d. d ≡ e) (λ e. e) (with_item_by h) f minmax_call_acts (λ e d k. k) l c i
 
 -- ---- the calls beside two that are kept
 

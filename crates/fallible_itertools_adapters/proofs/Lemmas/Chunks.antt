@@ -18,7 +18,7 @@ use Rattle.fallible_iterator.specs.Traces.{Answered, item}
 use Rattle.fallible_iterator.specs.Laws.Closures.{reaches_by_call_first, reaches_reflexive}
 use Rattle.fallible_iterator.proofs.Lemmas.Making.{lists_made_seen}
 use Rattle.fallible_itertools_adapters.specs.Adjacent.{AdjacentItems, HasKey, IsGroup}
-use Rattle.fallible_itertools_adapters.specs.Chunks.{BatchesOf, BatchesUpTo, Group, Grown, GrownTo, KeyedPut, MadeGroup, NoRoom, Put, Puts, SameHeld, batch_at, batch_by, batches_joined, chunk_by_contract, chunk_by_parts, chunk_by_plan, chunk_by_stops, chunked, chunked_by, chunks_contract, chunks_parts, chunks_plan, chunks_stops, group_at, group_by, group_kept, held_items, held_without_item, items_of_key, put_by_key, put_last, puts, puts_by_key, takes_key, vec_count}
+use Rattle.fallible_itertools_adapters.specs.Chunks.{BatchesOf, BatchesUpTo, Group, Grown, GrownTo, KeyedPut, MadeGroup, NoRoom, Put, PutsLastOrRefused, SameHeld, batch_at, batch_by, batches_joined, chunk_by_contract, chunk_by_parts, chunk_by_plan, chunk_by_stops, chunked, chunked_by, chunks_contract, chunks_parts, chunks_plan, chunks_stops, group_at, group_by, group_kept, held_items, held_without_item, items_of_key, put_by_key, put_last, puts, puts_by_key, takes_key, vec_count}
 use Rattle.fallible_itertools_adapters.specs.Staging.{Emitted, IsTransition, MayMeet, Transition, as_function, before_stop, emitted_first, held_one, plan_can, plan_does, plan_item, plan_meets, staged, stop_comes}
 use Rattle.fallible_itertools_adapters.specs.Laws.Chunks.{group_by_buffers}
 use Rattle.fallible_itertools_adapters.proofs.Lemmas.Adjacent.{EachNext, HoldsOfNext, adjacent_items_of_each_next}
@@ -306,7 +306,7 @@ module _ {A E : Type 0} (from : AllocError → E → Type 0) where
   batch_at_fills p x w true is grown = λ none. let fewer = ltb-true (vec_count w) p.0 is in let more = ap length grown ∙ length-append (held_items p.1) (x ∷ []) in omega (arith, fewer, more)
   batch_at_fills p x w false is grown = λ none. absurd cc
 
-  put_fills : (p : ℕ × Option (Vec A Global)) (x : A) (put : Put (Vec A Global) E) → Puts from p.1 x put → FillsWhereNone p (batch_by vec_count p put).0 (batch_by vec_count p put).1
+  put_fills : (p : ℕ × Option (Vec A Global)) (x : A) (put : Put (Vec A Global) E) → PutsLastOrRefused from p.1 x put → FillsWhereNone p (batch_by vec_count p put).0 (batch_by vec_count p put).1
   put_fills p x (Ok w) grown = batch_at_fills p x w (ltb (vec_count w) p.0) refl grown
   put_fills p x (Err (kept, e)) w = λ none. absurd (before_stop_makes_some (held_without_item p.1 kept) (Some e) none)
 
@@ -348,7 +348,7 @@ module _ {A E : Type 0} (from : AllocError → E → Type 0) where
   abbrev Refused : Emitted (Vec A Global) (Option E) E → Type 0
   Refused emitted = RefusalAfterHeld (puts from) (chunks_plan vec_count) chunks_stops put_of (chunks_plan length) chunks_stops batch_made from (λ whole. ⊤) HeldAlike emitted
 
-  put_alike : (h : ℕ × Option (Vec A Global)) (k : ℕ × Option (List A)) (x : A) (put : Put (Vec A Global) E) → HeldAlike h k → Puts from h.1 x put → Refused (batch_by vec_count h put).0 ⊎ Alike (batch_by vec_count h put) (batch_by length k (put_last k.1 x))
+  put_alike : (h : ℕ × Option (Vec A Global)) (k : ℕ × Option (List A)) (x : A) (put : Put (Vec A Global) E) → HeldAlike h k → PutsLastOrRefused from h.1 x put → Refused (batch_by vec_count h put).0 ⊎ Alike (batch_by vec_count h put) (batch_by length k (put_last k.1 x))
   put_alike h k x (Ok w) at grown = inr (grown_alike h k x w at grown)
   put_alike h k x (Err (kept, e)) at w = inl (held_without_item h.1 kept, e, refl, w.0)
 
@@ -632,17 +632,17 @@ module _ {A K : Type 0} (E : Type 0) (eq : K → K → Bool) (h : A → Result K
 module _ {A K E : Type 0} (from : AllocError → E → Type 0) (eq : K → K → Bool) where
   -- what becomes of an item of the key k
   abbrev pub IsGrouped : Option (Group K A) → K → A → Emitted (Group K A) (Option E) E → Option (Group K A) → Type 0
-  IsGrouped held k x emitted q = (v : Put (Vec A Global) E) × Puts from (items_of_key eq held k) x v × IsTransition (group_by eq held (Ok (k, v))) emitted q
+  IsGrouped held k x emitted q = (v : Put (Vec A Global) E) × PutsLastOrRefused from (items_of_key eq held k) x v × IsTransition (group_by eq held (Ok (k, v))) emitted q
 
   pub grouped_same : (g : Group K A) (k : K) (x : A) (w : Vec A Global) → eq g.0 k ≡ true → Grown (Some g.1) x w → IsGrouped (Some g) k x None (Some (g.0, w))
-  grouped_same g k x w is grown = (Ok w, subst (λ b. Puts from (cond b (Some g.1) None) x (Ok w)) (sym is) grown, subst (λ b. IsTransition {E = E} (group_at g k w b) None (Some (g.0, w))) (sym is) (refl, refl))
+  grouped_same g k x w is grown = (Ok w, subst (λ b. PutsLastOrRefused from (cond b (Some g.1) None) x (Ok w)) (sym is) grown, subst (λ b. IsTransition {E = E} (group_at g k w b) None (Some (g.0, w))) (sym is) (refl, refl))
 
   -- the group has the same items, and comes before the failure
   pub grouped_same_refused : (g : Group K A) (k : K) (x : A) (w : Vec A Global) (refused : AllocError) (e : E) (taken : Option (Group K A)) (emitted : Emitted (Group K A) (Option E) E) (q : Option (Group K A)) → eq g.0 k ≡ true → NoRoom (Some g.1) × (vec_items w ≡ vec_items g.1) → from refused e → taken ≡ Some (g.0, w) → emitted ≡ before_stop taken (Some e) → q ≡ None → IsGrouped (Some g) k x emitted q
-  grouped_same_refused g k x w refused e taken emitted q is kept because at before none = (Err (Some w, e), subst (λ b. Puts from (cond b (Some g.1) None) x (Err (Some w, e))) (sym is) ((refused, because), kept.0, kept.1), (before ∙ ap (λ v. before_stop v (Some e)) at, none))
+  grouped_same_refused g k x w refused e taken emitted q is kept because at before none = (Err (Some w, e), subst (λ b. PutsLastOrRefused from (cond b (Some g.1) None) x (Err (Some w, e))) (sym is) ((refused, because), kept.0, kept.1), (before ∙ ap (λ v. before_stop v (Some e)) at, none))
 
   pub grouped_other : (g : Group K A) (k : K) (x : A) (w : Vec A Global) (whole : Group K A) (emitted : Emitted (Group K A) (Option E) E) (q : Option (Group K A)) → eq g.0 k ≡ false → Grown None x w → whole ≡ g → emitted ≡ Some (item whole, None) → q ≡ Some (k, w) → IsGrouped (Some g) k x emitted q
-  grouped_other g k x w whole emitted q is grown same yields then = (Ok w, subst (λ b. Puts from (cond b (Some g.1) None) x (Ok w)) (sym is) grown, subst (λ b. IsTransition (group_at g k w b) emitted q) (sym is) (rw (yields, same) refl, then))
+  grouped_other g k x w whole emitted q is grown same yields then = (Ok w, subst (λ b. PutsLastOrRefused from (cond b (Some g.1) None) x (Ok w)) (sym is) grown, subst (λ b. IsTransition (group_at g k w b) emitted q) (sym is) (rw (yields, same) refl, then))
 
   pub grouped_first : (k : K) (x : A) (w : Vec A Global) (q : Option (Group K A)) → Grown None x w → q ≡ Some (k, w) → IsGrouped None k x None q
   grouped_first k x w q grown then = (Ok w, grown, (refl, then))
@@ -653,7 +653,7 @@ module _ {A K E : Type 0} (from : AllocError → E → Type 0) (eq : K → K →
 
   -- the item was to begin a group
   pub grouped_refused : (held : Option (Group K A)) (k : K) (x : A) (refused : AllocError) (e : E) (taken : Option (Group K A)) (emitted : Emitted (Group K A) (Option E) E) (q : Option (Group K A)) → items_of_key eq held k ≡ None → from refused e → taken ≡ held → emitted ≡ before_stop taken (Some e) → q ≡ None → IsGrouped held k x emitted q
-  grouped_refused held k x refused e taken emitted q begins because at before none = (Err (None, e), subst (λ into. Puts {A = A} from into x (Err (None, e))) (sym begins) ((refused, because), tt, tt), (before ∙ ap (λ v. before_stop v (Some e)) (at ∙ sym (group_kept_of_none held)), none))
+  grouped_refused held k x refused e taken emitted q begins because at before none = (Err (None, e), subst (λ into. PutsLastOrRefused {A = A} from into x (Err (None, e))) (sym begins) ((refused, because), tt, tt), (before ∙ ap (λ v. before_stop v (Some e)) (at ∙ sym (group_kept_of_none held)), none))
 
   pub no_items_of_key_where_differ : (g : Group K A) (k : K) → eq g.0 k ≡ false → items_of_key eq (Some g) k ≡ None
   no_items_of_key_where_differ g k is = ap (λ b. cond b (Some g.1) None) is
@@ -680,7 +680,7 @@ module _ {F A K E : Type 0} (from : AllocError → E → Type 0) (eq : K → K �
   group_grown_alike : (p : Group K A) (i : K × List A) (k : K) (x : A) (w : Vec A Global) → MadeGroup i p → Grown (items_of_key eq (Some p) k) x w → GroupAlike (group_by eq (Some p) (Ok (k, Ok w))) (group_by eq (Some i) (put_by_key eq h (Some i) x (Ok k)))
   group_grown_alike p i k x w is grown = subst (λ (j : K). GroupAlike (group_by eq (Some p) (Ok (k, Ok w))) (group_by eq (Some (j, i.1)) (put_by_key eq h (Some (j, i.1)) x (Ok k)))) is.0 (subst (λ t. GroupAlike (group_by eq (Some p) (Ok (k, Ok w))) t) (sym (group_by_is_made eq h (p.0, i.1) x k (eq p.0 k) refl)) (group_at_alike p i.1 k x w (eq p.0 k) is.1 grown))
 
-  group_put_alike : (held : Option (Group K A)) (a : Option (K × List A)) (x : A) (k : K) (put : Put (Vec A Global) E) → GroupHeldAlike held a → Puts from (items_of_key eq held k) x put → GroupRefused (group_by eq held (Ok (k, put))).0 ⊎ GroupAlike (group_by eq held (Ok (k, put))) (group_by eq a (put_by_key eq h a x (Ok k)))
+  group_put_alike : (held : Option (Group K A)) (a : Option (K × List A)) (x : A) (k : K) (put : Put (Vec A Global) E) → GroupHeldAlike held a → PutsLastOrRefused from (items_of_key eq held k) x put → GroupRefused (group_by eq held (Ok (k, put))).0 ⊎ GroupAlike (group_by eq held (Ok (k, put))) (group_by eq a (put_by_key eq h a x (Ok k)))
   group_put_alike held a x k (Err (kept, e)) at w = inl (group_kept held kept, e, refl, w.0)
   group_put_alike None None x k (Ok v) at grown = inr ((refl, grown), tt)
   group_put_alike None (Some i) x k (Ok v) at grown = absurd at

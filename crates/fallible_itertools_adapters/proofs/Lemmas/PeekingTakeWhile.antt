@@ -94,10 +94,10 @@ module _ {S F X E : Type 0} {m : Contract S X E} {looks : S → X → S → Type
   taken_end_of_nil (failure_at d) p u r a step e = absurd (let b = a (Err d) u step in cc)
   taken_end_of_nil end_at p u r a step e = e
 
-  failure_place_of_first : (z : Place X (Result Bool E) E) (d : E) (l : List (Result X E)) (p q : S) (g : F) → AlwaysGives m.steps p (Err d ∷ l) → DrawsAtPlace m.steps looks z p q → Calls call f (filter_map call_of (z ∷ [])) g → (z ≡ failure_at d) × AlwaysGives m.steps q l × (g ≡ f)
-  failure_place_of_first (asked y v) d l p q g a drawn called = absurd (let u = source_step_of_place (asked y v) p q drawn in let e = (a (item y) u.0 u.1).0 in cc)
-  failure_place_of_first (failure_at c) d l p q g a drawn called = let is = a (Err c) q drawn in let same : c ≡ d = (let e = is.0 in cc) in (ap (λ (e : E). failure_at e) same, is.1, sym called)
-  failure_place_of_first end_at d l p q g a drawn called = absurd (let e = (a end q drawn).0 in cc)
+  place_of_first_failure : (z : Place X (Result Bool E) E) (d : E) (l : List (Result X E)) (p q : S) (g : F) → AlwaysGives m.steps p (Err d ∷ l) → DrawsAtPlace m.steps looks z p q → Calls call f (filter_map call_of (z ∷ [])) g → (z ≡ failure_at d) × AlwaysGives m.steps q l × (g ≡ f)
+  place_of_first_failure (asked y v) d l p q g a drawn called = absurd (let u = source_step_of_place (asked y v) p q drawn in let e = (a (item y) u.0 u.1).0 in cc)
+  place_of_first_failure (failure_at c) d l p q g a drawn called = let is = a (Err c) q drawn in let same : c ≡ d = (let e = is.0 in cc) in (ap (λ (e : E). failure_at e) same, is.1, sym called)
+  place_of_first_failure end_at d l p q g a drawn called = absurd (let e = (a end q drawn).0 in cc)
 
   -- the call at an item that the list begins with
   asked_place_is_of_function : (x y : X) (v : Result Bool E) (g : F) → y ≡ x → Calls call f ((y, v) ∷ []) g → (◌≡◌ {A = Place X (Result Bool E) E} (asked y v) (asked x (h x))) × (g ≡ f)
@@ -124,7 +124,7 @@ module _ {S F X E : Type 0} {m : Contract S X E} {looks : S → X → S → Type
   unfolding taken_while
   gives_peeking [] p a = λ r q w. let u = source_step_of_place w.0 p q.0 w.1 in taken_end_of_nil w.0 p u.0 r a u.1 w.3
   gives_peeking (Ok x ∷ l) p a = gives_peeking_cons_while x (h x) l (taken_while h l) p refl a (λ u b. gives_peeking l u b)
-  gives_peeking (Err e ∷ l) p a = λ r q w. let d = failure_place_of_first w.0 e l p q.0 q.1 a w.1 w.2 in (w.3 ∙ ap taken_answer d.0, gives_peeking_of_equal_closure q.0 q.1 (taken_while h l) d.2 (gives_peeking l q.0 d.1))
+  gives_peeking (Err e ∷ l) p a = λ r q w. let d = place_of_first_failure w.0 e l p q.0 q.1 a w.1 w.2 in (w.3 ∙ ap taken_answer d.0, gives_peeking_of_equal_closure q.0 q.1 (taken_while h l) d.2 (gives_peeking l q.0 d.1))
 
 pub lists_peeking : {S F X E : Type 0} {m : Contract S X E} {looks : S → X → S → Type 0} (k : LooksAhead m looks) (g : Mut F (Bor X × Unit {0}) (Result Bool E)) (s : PeekingTakeWhile S F) (f : F) (h : X → Result Bool E) (l : List (Result X E)) → peeking_parts s ≡ (s.it, f) → Acts (call_by_reference g) f h → Lists m.steps s.it l
     → Lists (seen_as peeking_parts (peeking_contract m looks g)).steps s (taken_while h l)
@@ -159,7 +159,7 @@ module _ {S F X E : Type 0} {m : Contract S X E} {looks : S → X → S → Type
   unfolding rest_by_while taken_while
   leaves_rest_of_taken_while [] s t a = λ ran. tt
   leaves_rest_of_taken_while (Ok x ∷ l) s t a = leaves_rest_item x (h x) l (taken_while h l) (rest_by_while h l) s t refl a (λ u b. leaves_rest_of_taken_while l u t b)
-  leaves_rest_of_taken_while (Err e ∷ l) s t a = λ ran. let w = ran.1 in let d = failure_place_of_first k call f h acts w.0 e l s ran.0.0 ran.0.1 a w.1 w.2 in
+  leaves_rest_of_taken_while (Err e ∷ l) s t a = λ ran. let w = ran.1 in let d = place_of_first_failure k call f h acts w.0 e l s ran.0.0 ran.0.1 a w.1 w.2 in
       always_gives_left_where_leaves_rest (rest_by_while h l) (taken_while h l) ran.0.0 ran.0.1 t d.2 (leaves_rest_of_taken_while l ran.0.0 t d.1) ran.2
 
 -- a run of a value whose answers are those of its parts is one of these

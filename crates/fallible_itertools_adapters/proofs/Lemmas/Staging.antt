@@ -20,7 +20,7 @@ use Rattle.fallible_iterator.proofs.Lemmas.Folding.{drained_by_same_steps, holds
 use Rattle.fallible_iterator.proofs.Lemmas.Folds.{holds_at_first_turn, holds_each_turn_after_item, driven_by_item_first, driven_end, driven_failure, driven_of_first_break, fold_of_references_drives_values, names_kept}
 use Rattle.fallible_iterator.proofs.Lemmas.UntilRefused.{always_of_until_refused}
 use Rattle.fallible_itertools_adapters.specs.Adjacent.{AdjacentItems}
-use Rattle.fallible_itertools_adapters.specs.Staging.{DrawsUpTo, Emitted, yields, passes_over, due_gives, stage_meets, stage_step, stop_answer, MayMeet, TakesAll, IsStage, IsStop, EndsInStop, Told, DueTold, EmittedTold, DueTakes, EmittedTakes, Met, MetTakes, StageTurns, before_rest, due_first, emitted_first, staged, Follows, Transition, Plan, calls, makes, plan_meets, followed, plan_does, ends_come, before_stop, IsTransition, as_function, stop_comes, CanFollow, plan_can, plan_item, plan_takes, held_one, HintsPastFailure, hint_unless_end}
+use Rattle.fallible_itertools_adapters.specs.Staging.{DrawsUpTo, Emitted, yields, passes_over, due_gives, stage_meets, stage_step, stop_answer, MayMeet, TakesAll, IsStage, IsStop, EndsInStop, Told, TurnsOnDue, EmittedTold, DueTakes, EmittedTakes, Met, MetTakes, StageTurns, before_rest, due_first, emitted_first, staged, Follows, Transition, Plan, calls, makes, plan_meets, followed, plan_does, ends_come, before_stop, IsTransition, as_function, stop_comes, CanFollow, plan_can, plan_item, plan_takes, held_one, HintsPastFailure, hint_unless_end}
 use Rattle.fallible_itertools_adapters.specs.Laws.Staging.{may_meet_of_answer, may_meet_before_draws, kept_where_reached, Always, ItemBuffers, NoEnd, always_weaken, failure_buffers, plan_hint}
 use Rattle.fallible_itertools_adapters.proofs.Lemmas.Adjacent.{EachNext, HoldsOfNext, adjacent_items_of_each_next}
 
@@ -62,7 +62,7 @@ module _ {S P X D B L E C R : Type 0} (comes : L → Option (Answered B E)) (mee
   abbrev Steps : State → Answered B E → State → Type 0
   Steps = stage_step comes meets steps
 
-  driven_of_due_told_break : (s : S) (p : P) (due : Option L) (c : C) (told : Answered R E × Option L) (d : C) → DueTold turns comes c due (Break told) d → Driven Steps turns (s, (p, due)) c told.0 (s, (p, told.1)) d
+  driven_of_due_told_break : (s : S) (p : P) (due : Option L) (c : C) (told : Answered R E × Option L) (d : C) → TurnsOnDue turns comes c due (Break told) d → Driven Steps turns (s, (p, due)) c told.0 (s, (p, told.1)) d
   driven_of_due_told_break s p None c told d w = absurd (let e = w.0 in cc)
   driven_of_due_told_break s p (Some later) c (why, left) d w = rw w.1 (driven_of_told_break Steps turns (s, (p, Some later)) (s, (p, (due_gives later (comes later)).1)) (due_gives later (comes later)).0 why c d (refl, refl, refl) w.0)
 
@@ -71,7 +71,7 @@ module _ {S P X D B L E C R : Type 0} (comes : L → Option (Answered B E)) (mee
   none_due_left_where_told_continue later (Some a) c d w = refl
   none_due_left_where_told_continue later None c d w = absurd w
 
-  drives_on_after_due : (s : S) (p : P) (due : Option L) (c : C) (why : Answered R E) (k : C) (u : State) (z : C) → DueTold {R = R} turns comes c due (Continue tt) k → Driven Steps turns (s, (p, None)) k why u z → Driven Steps turns (s, (p, due)) c why u z
+  drives_on_after_due : (s : S) (p : P) (due : Option L) (c : C) (why : Answered R E) (k : C) (u : State) (z : C) → TurnsOnDue {R = R} turns comes c due (Continue tt) k → Driven Steps turns (s, (p, None)) k why u z → Driven Steps turns (s, (p, due)) c why u z
   drives_on_after_due s p None c why k u z w rest = (rw w.1 at rest)
   drives_on_after_due s p (Some later) c why k u z w rest = drives_on_after_told Steps turns (s, (p, Some later)) (s, (p, None)) u (due_gives later (comes later)).0 why c k z (refl, refl, ap (λ (l : Option L). (p, l)) (sym (none_due_left_where_told_continue later (comes later) c k w))) w rest
 
@@ -89,7 +89,7 @@ module _ {S P X D B L E C R : Type 0} (comes : L → Option (Answered B E)) (mee
     abbrev HoldsHere : State → C → Type 0
     HoldsHere s c = HoldsAtEachTurn Steps (goes_on turns) Q s c
 
-    holds_after_due : (s : S) (p : P) (due : Option L) (c k : C) → DueTold {R = R} turns comes c due (Continue tt) k → HoldsHere (s, (p, due)) c → HoldsHere (s, (p, None)) k
+    holds_after_due : (s : S) (p : P) (due : Option L) (c k : C) → TurnsOnDue {R = R} turns comes c due (Continue tt) k → HoldsHere (s, (p, due)) c → HoldsHere (s, (p, None)) k
     holds_after_due s p None c k w h = rw w.1 h
     holds_after_due s p (Some later) c k w h = holds_after_told Steps turns Q (s, (p, Some later)) (s, (p, None)) (due_gives later (comes later)).0 c k (refl, refl, ap (λ (l : Option L). (p, l)) (sym (none_due_left_where_told_continue later (comes later) c k w))) w h
 
@@ -176,19 +176,19 @@ module _ {S P X D B L E : Type 0} (comes : L → Option (Answered B E)) (meets :
   pub step_of_draws : {s t : S} {p q : P × Option L} {r : Answered B E} → p.1 ≡ None → DrawsUpTo comes meets steps s p.0 r t q → stage_step comes meets steps (s, p) r (t, q)
   step_of_draws {s = s} {t = t} {p = p} {q = q} {r = r} is drawn = subst (λ (d : Option L). stage_step comes meets steps (s, (p.0, d)) r (t, q)) (sym is) drawn
 
-  pub step_of_met : {s t : S} {p : P × Option L} {h : P} {a : Answered X D} {r : Answered B E} {due : Option L} → p.1 ≡ None → steps s a t → meets p.0 a (Some (r, due)) h → stage_step comes meets steps (s, p) r (t, (h, due))
-  step_of_met is step called = step_of_draws is (yields _ step called)
+  pub stage_step_of_meeting : {s t : S} {p : P × Option L} {h : P} {a : Answered X D} {r : Answered B E} {due : Option L} → p.1 ≡ None → steps s a t → meets p.0 a (Some (r, due)) h → stage_step comes meets steps (s, p) r (t, (h, due))
+  stage_step_of_meeting is step called = step_of_draws is (yields _ step called)
 
 -- ---- the whole fold
 
 module _ {S P X D B L E C R : Type 0} (comes : L → Option (Answered B E)) (meets : P → Answered X D → Emitted B L E → P → Type 0) (steps : S → Answered X D → S → Type 0) (turns : C → B → ControlFlow R (Unit {0}) → C → Type 0) where
   module _ {s : S} {p : P × Option L} {c : C} where
     -- what is due stopped it
-    pub fold_stops_where_due_breaks : {told : Answered R E × Option L} {d : C} → DueTold turns comes c p.1 (Break told) d → Driven (stage_step comes meets steps) turns (s, p) c told.0 (s, (p.0, told.1)) d
+    pub fold_stops_where_due_breaks : {told : Answered R E × Option L} {d : C} → TurnsOnDue turns comes c p.1 (Break told) d → Driven (stage_step comes meets steps) turns (s, p) c told.0 (s, (p.0, told.1)) d
     fold_stops_where_due_breaks {told = told} {d = d} w = driven_of_due_told_break comes meets steps turns s p.0 p.1 c told d w
 
     -- it went on after that
-    pub fold_drives_on_after_due : {k : C} {why : Answered R E} {u : S × (P × Option L)} {z : C} → DueTold {R = R} turns comes c p.1 (Continue tt) k → Driven (stage_step comes meets steps) turns (s, (p.0, None)) k why u z → Driven (stage_step comes meets steps) turns (s, p) c why u z
+    pub fold_drives_on_after_due : {k : C} {why : Answered R E} {u : S × (P × Option L)} {z : C} → TurnsOnDue {R = R} turns comes c p.1 (Continue tt) k → Driven (stage_step comes meets steps) turns (s, (p.0, None)) k why u z → Driven (stage_step comes meets steps) turns (s, p) c why u z
     fold_drives_on_after_due {k = k} {why = why} {u = u} {z = z} w rest = drives_on_after_due comes meets steps turns s p.0 p.1 c why k u z w rest
 
   -- where nothing is due
@@ -242,7 +242,7 @@ module _ {S P X D B L E C R : Type 0} {m : Contract S X D} (l : Lawful m) (comes
     pub takes_due : DueTakes {R = R} turns comes Q c p.1
     takes_due = due_is_taken comes meets m.steps turns Q s p.0 p.1 c holds
 
-    pub takes_after_due : {k : C} → DueTold {R = R} turns comes c p.1 (Continue tt) k → HoldsThere (s, (p.0, None)) k
+    pub takes_after_due : {k : C} → TurnsOnDue {R = R} turns comes c p.1 (Continue tt) k → HoldsThere (s, (p.0, None)) k
     takes_after_due {k = k} told = holds_after_due comes meets m.steps turns Q s p.0 p.1 c k told holds
 
 -- ---- a stop of the source
@@ -705,15 +705,15 @@ module _ {Q R H X B E : Type 0} (g : Q → R) (plan : H → X → Plan Q R (Tran
   -- ---- adjacent items are apart
 
   module _ (P : B → B → Type 0) (Good : H → Type 0) (at_item : (h : H) (x : X) → Good h → Apart P (kept h) (followed (as_function g) (plan h x) tt).0 (kept (followed (as_function g) (plan h x) tt).1.0)) (good_at_item : (h : H) (x : X) → Good h → Good (followed (as_function g) (plan h x) tt).1.0) (good_at_stop : (h : H) → Good (empty h)) where
-    next_of_list : (l : List (Result X E)) (h : H) (z : B) → Good h → HoldsOfHeld P z (kept h) → HoldsOfNext P z (list_from h l)
-    next_of_list [] h z good after = next_apart P (kept h) (kept (empty h)) (before_stop (kept h) None) [] z (apart_at_stop P (kept h) _ None) after (λ at. tt)
-    next_of_list (Ok x ∷ l) h z good after = let t = followed (as_function g) (plan h x) tt in next_apart P (kept h) (kept t.1.0) t.0 (list_from t.1.0 l) z (at_item h x good) after (next_of_list l t.1.0 z (good_at_item h x good))
-    next_of_list (Err e ∷ l) h z good after = next_apart P (kept h) (kept (empty h)) (before_stop (kept h) (Some e)) (list_from (empty h) l) z (apart_at_stop P (kept h) _ (Some e)) after (next_of_list l (empty h) z (good_at_stop h))
+    holds_of_next_of_list : (l : List (Result X E)) (h : H) (z : B) → Good h → HoldsOfHeld P z (kept h) → HoldsOfNext P z (list_from h l)
+    holds_of_next_of_list [] h z good after = next_apart P (kept h) (kept (empty h)) (before_stop (kept h) None) [] z (apart_at_stop P (kept h) _ None) after (λ at. tt)
+    holds_of_next_of_list (Ok x ∷ l) h z good after = let t = followed (as_function g) (plan h x) tt in next_apart P (kept h) (kept t.1.0) t.0 (list_from t.1.0 l) z (at_item h x good) after (holds_of_next_of_list l t.1.0 z (good_at_item h x good))
+    holds_of_next_of_list (Err e ∷ l) h z good after = next_apart P (kept h) (kept (empty h)) (before_stop (kept h) (Some e)) (list_from (empty h) l) z (apart_at_stop P (kept h) _ (Some e)) after (holds_of_next_of_list l (empty h) z (good_at_stop h))
 
     each_of_list : (l : List (Result X E)) (h : H) → Good h → EachNext P (list_from h l)
     each_of_list [] h good = each_apart P (kept h) (kept (empty h)) (before_stop (kept h) None) [] (apart_at_stop P (kept h) _ None) (λ y at. tt) tt
-    each_of_list (Ok x ∷ l) h good = let t = followed (as_function g) (plan h x) tt in let then = good_at_item h x good in each_apart P (kept h) (kept t.1.0) t.0 (list_from t.1.0 l) (at_item h x good) (λ y after. next_of_list l t.1.0 y then after) (each_of_list l t.1.0 then)
-    each_of_list (Err e ∷ l) h good = let then = good_at_stop h in each_apart P (kept h) (kept (empty h)) (before_stop (kept h) (Some e)) (list_from (empty h) l) (apart_at_stop P (kept h) _ (Some e)) (λ y after. next_of_list l (empty h) y then after) (each_of_list l (empty h) then)
+    each_of_list (Ok x ∷ l) h good = let t = followed (as_function g) (plan h x) tt in let then = good_at_item h x good in each_apart P (kept h) (kept t.1.0) t.0 (list_from t.1.0 l) (at_item h x good) (λ y after. holds_of_next_of_list l t.1.0 y then after) (each_of_list l t.1.0 then)
+    each_of_list (Err e ∷ l) h good = let then = good_at_stop h in each_apart P (kept h) (kept (empty h)) (before_stop (kept h) (Some e)) (list_from (empty h) l) (apart_at_stop P (kept h) _ (Some e)) (λ y after. holds_of_next_of_list l (empty h) y then after) (each_of_list l (empty h) then)
 
     pub adjacent_items_apart : (l : List (Result X E)) (h : H) → Good h → AdjacentItems P (list_from h l)
     adjacent_items_apart l h good = adjacent_items_of_each_next P (list_from h l) (each_of_list l h good)

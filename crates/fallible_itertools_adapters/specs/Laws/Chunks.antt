@@ -13,7 +13,7 @@ use Rattle.std.proofs.lemmas.Grind.{div_ceil_times}
 use Rattle.fallible_iterator.specs.Contract.{Contract, Lawful}
 use Rattle.fallible_iterator.specs.Hints.{fitting_sum}
 use Rattle.fallible_iterator.specs.Laws.Hints.Joining.{if_some_fitting_sum_at_least_both}
-use Rattle.fallible_itertools_adapters.specs.Chunks.{Grown, Put, Puts, batch_at, batch_by, chunks_plan, chunks_stops, held_without_item, puts, vec_count, batch_held, chunks_contract, KeyedPut, chunk_by_contract, chunk_by_plan, chunk_by_stops, group_at, group_by, group_kept, puts_by_key, takes_key, chunk_by_rule, chunks_rule}
+use Rattle.fallible_itertools_adapters.specs.Chunks.{Grown, Put, PutsLastOrRefused, batch_at, batch_by, chunks_plan, chunks_stops, held_without_item, puts, vec_count, batch_held, chunks_contract, KeyedPut, chunk_by_contract, chunk_by_plan, chunk_by_stops, group_at, group_by, group_kept, puts_by_key, takes_key, chunk_by_rule, chunks_rule}
 use Rattle.fallible_itertools_adapters.specs.Staging.{Emitted, IsTransition, Transition, before_stop, held_one, plan_meets, stop_comes, IsStage}
 use Rattle.fallible_itertools_adapters.specs.Laws.Staging.{EmittedFew, ItemBuffers, ItemWeighs, MakesNoFewer, before_stop_weighs, failure_buffers, held_hold_by_makes, is_stage_buffering, is_stage_plan, lawful_bounded, makes_at_most_items_and_held, one_held_hold, HintHolds, closure_stays, lawful_rule}
 
@@ -54,7 +54,7 @@ module _ {A E : Type 0} (from : AllocError → E → Type 0) where
   few_before_failure None e after before = tt
   few_before_failure (Some v) e after before = tt
 
-  few_of_put : (h : ℕ × Option (Vec A Global)) (x : A) (put : Put (Vec A Global) E) (low : ℕ) → Puts from h.1 x put → EmittedFew stop_comes (batch_by vec_count h put).0 (λ n. EnoughBegun h.0 (batch_by vec_count h put).1.1 (low - 1) n) (λ n. EnoughBegun h.0 h.1 low n)
+  few_of_put : (h : ℕ × Option (Vec A Global)) (x : A) (put : Put (Vec A Global) E) (low : ℕ) → PutsLastOrRefused from h.1 x put → EmittedFew stop_comes (batch_by vec_count h put).0 (λ n. EnoughBegun h.0 (batch_by vec_count h put).1.1 (low - 1) n) (λ n. EnoughBegun h.0 h.1 low n)
   few_of_put h x (Ok w) low grown = few_of_batch_at h x w (ltb (vec_count w) h.0) low refl grown
   few_of_put h x (Err (kept, e)) low w = few_before_failure (held_without_item h.1 kept) e _ _
 

@@ -13,7 +13,7 @@ use Rattle.fallible_iterator.specs.Sources.FromFn.{call_of_none}
 use Rattle.fallible_iterator.specs.Traces.{Answered, item, failure, end}
 use Rattle.fallible_iterator.proofs.Lemmas.Lists.ForGood.{lists_once}
 use Rattle.fallible_itertools_joins.specs.Sides.{MakesTaken, fused_contract}
-use Rattle.fallible_itertools_joins.specs.Zip.{longest, zip_longest_parts, zip_longest_contract, zipped_longest, MakesPair, pair_or, takes_none, zip_eq_contract, zip_eq_parts, zipped_equal, MakesPadded, from_index, index_step, pad_using_contract, pad_using_parts, padded, right_alone}
+use Rattle.fallible_itertools_joins.specs.Zip.{longest, zip_longest_parts, zip_longest_contract, zipped_longest, MakesPair, pair_or, takes_none, zip_eq_contract, zip_eq_parts, zipped_equal, MakesPadded, values_from_index, index_step, pad_using_contract, pad_using_parts, padded, right_alone}
 use Rattle.fallible_itertools_joins.specs.Laws.Taken.{holds_taken}
 use Rattle.fallible_itertools_joins.specs.Laws.Zip.{holds_padded, holds_pair}
 use Rattle.fallible_itertools_joins.proofs.Lemmas.Sides.{JoinsLists, ListsBy, first_answer, gives_for_good_of_fresh, gives_for_good_where_each_answers_first, lists_by_taken, lists_for_good_holding, rest_of}
@@ -107,7 +107,7 @@ module _ {S U F A B E : Type 0} (left : Contract S A E) (right : Contract U B E)
 
 -- the indices that are left, as answers
 abbrev indices_left : {E : Type 0} → ℕ × ℕ → List (Result ℕ E)
-indices_left p = from_index (λ i. Ok i) p.0 (p.1 - p.0)
+indices_left p = values_from_index (λ i. Ok i) p.0 (p.1 - p.0)
 
 module _ (E : Type 0) where
   abbrev IndexSteps : ℕ × ℕ → Answered ℕ E → ℕ × ℕ → Type 0
@@ -115,8 +115,8 @@ module _ (E : Type 0) where
 
   index_step_answers_first : (p q : ℕ × ℕ) (r : Answered ℕ E) (l : List (Result ℕ E)) → l ≡ indices_left p → IndexSteps p r q → (r ≡ first_answer l) × (rest_of l ≡ indices_left q)
   index_step_answers_first p q (Ok o) l is step = elim step [
-    | inl d ↦ let more : p.1 - p.0 ≡ suc (p.1 - suc p.0) = omega (arith, d.0) in let l_is : l ≡ Ok p.0 ∷ from_index (λ i. Ok i) (suc p.0) (p.1 - suc p.0) = is ∙ ap (from_index (λ i. Ok i) p.0) more in rw (l_is, d.1, d.2) (refl, refl)
-    | inr d ↦ let none : p.1 - p.0 ≡ 0 = omega (arith, d.0) in let l_is : l ≡ [] = is ∙ ap (from_index (λ i. Ok i) p.0) none in rw (l_is, d.1, d.2) (refl, sym (ap (from_index (λ i. Ok i) p.0) none))
+    | inl d ↦ let more : p.1 - p.0 ≡ suc (p.1 - suc p.0) = omega (arith, d.0) in let l_is : l ≡ Ok p.0 ∷ values_from_index (λ i. Ok i) (suc p.0) (p.1 - suc p.0) = is ∙ ap (values_from_index (λ i. Ok i) p.0) more in rw (l_is, d.1, d.2) (refl, refl)
+    | inr d ↦ let none : p.1 - p.0 ≡ 0 = omega (arith, d.0) in let l_is : l ≡ [] = is ∙ ap (values_from_index (λ i. Ok i) p.0) none in rw (l_is, d.1, d.2) (refl, sym (ap (values_from_index (λ i. Ok i) p.0) none))
   ]
   index_step_answers_first p q (Err e) l is step = absurd step
 
@@ -145,30 +145,30 @@ module _ {X E : Type 0} (h : ℕ → Result X E) where
     lists_by_padded : ListsBy (MakesPadded call) (λ g. g ≡ f) (λ a b. map pad_or (zipped_longest a b))
     lists_by_padded = lists_by_made pad_or pad_fails_as_it_is (MakesPadded call) (λ g. g ≡ f) pad_of_both
 
-  pads_right_alone : (i k : ℕ) → map pad_or (map right_alone (from_index (λ j. Ok j) i k)) ≡ from_index h i k
+  pads_right_alone : (i k : ℕ) → map pad_or (map right_alone (values_from_index (λ j. Ok j) i k)) ≡ values_from_index h i k
   pads_right_alone i zero = refl
   pads_right_alone i (suc k) = ap (λ t. h i ∷ t) (pads_right_alone (suc i) k)
 
   -- the missing ones, by where they begin and how many they are
   abbrev missing : ℕ → ℕ → List (Result X E) → List (Result X E)
-  missing i k l = from_index h (i + length (items_listed l)) (k - length (items_listed l))
+  missing i k l = values_from_index h (i + length (items_listed l)) (k - length (items_listed l))
 
   none_missing : (i : ℕ) (l : List (Result X E)) → missing i zero l ≡ []
-  none_missing i l = let none : zero - length (items_listed l) ≡ 0 = omega arith in ap (from_index h (i + length (items_listed l))) none
+  none_missing i l = let none : zero - length (items_listed l) ≡ 0 = omega arith in ap (values_from_index h (i + length (items_listed l))) none
 
-  missing_of_suc_is_from_index : (i k : ℕ) (l : List (Result X E)) → missing (suc i) k l ≡ from_index h (i + suc (length (items_listed l))) (suc k - suc (length (items_listed l)))
-  missing_of_suc_is_from_index i k l = let n = length (items_listed l) in let first : suc i + n ≡ i + suc n = omega arith in let many : k - n ≡ suc k - suc n = omega arith in ap (λ j. from_index h j (k - n)) first ∙ ap (from_index h (i + suc n)) many
+  missing_of_suc_is_from_index : (i k : ℕ) (l : List (Result X E)) → missing (suc i) k l ≡ values_from_index h (i + suc (length (items_listed l))) (suc k - suc (length (items_listed l)))
+  missing_of_suc_is_from_index i k l = let n = length (items_listed l) in let first : suc i + n ≡ i + suc n = omega arith in let many : k - n ≡ suc k - suc n = omega arith in ap (λ j. values_from_index h j (k - n)) first ∙ ap (values_from_index h (i + suc n)) many
 
-  pads_zipped : (l : List (Result X E)) (i k : ℕ) → map pad_or (zipped_longest l (from_index (λ j. Ok j) i k)) ≡ l ++ missing i k l
+  pads_zipped : (l : List (Result X E)) (i k : ℕ) → map pad_or (zipped_longest l (values_from_index (λ j. Ok j) i k)) ≡ l ++ missing i k l
   unfolding zipped_longest
-  pads_zipped [] i k = let first : i + 0 ≡ i = omega arith in let many : k - 0 ≡ k = omega arith in pads_right_alone i k ∙ sym (ap (λ j. from_index h j (k - 0)) first ∙ ap (from_index h i) many)
+  pads_zipped [] i k = let first : i + 0 ≡ i = omega arith in let many : k - 0 ≡ k = omega arith in pads_right_alone i k ∙ sym (ap (λ j. values_from_index h j (k - 0)) first ∙ ap (values_from_index h i) many)
   pads_zipped (Err e ∷ l) i k = ap (λ t. Err e ∷ t) (pads_zipped l i k)
   pads_zipped (Ok x ∷ l) i zero = ap (λ t. Ok x ∷ t) (pads_zipped l i zero ∙ ap (λ t. l ++ t) (none_missing i l ∙ sym (none_missing i (Ok x ∷ l))))
   pads_zipped (Ok x ∷ l) i (suc k) = ap (λ t. Ok x ∷ t) (pads_zipped l (suc i) k ∙ ap (λ t. l ++ t) (missing_of_suc_is_from_index i k l))
 
-  pads_to_padded : (n : ℕ) (l : List (Result X E)) → map pad_or (zipped_longest l (from_index (λ j. Ok j) 0 (n - 0))) ≡ padded n h l
+  pads_to_padded : (n : ℕ) (l : List (Result X E)) → map pad_or (zipped_longest l (values_from_index (λ j. Ok j) 0 (n - 0))) ≡ padded n h l
   unfolding padded
-  pads_to_padded n l = let all : n - 0 ≡ n = omega arith in let first : 0 + length (items_listed l) ≡ length (items_listed l) = omega arith in ap (λ k. map pad_or (zipped_longest l (from_index (λ j. Ok j) 0 k))) all ∙ pads_zipped l 0 n ∙ ap (λ j. l ++ from_index h j (n - length (items_listed l))) first
+  pads_to_padded n l = let all : n - 0 ≡ n = omega arith in let first : 0 + length (items_listed l) ≡ length (items_listed l) = omega arith in ap (λ k. map pad_or (zipped_longest l (values_from_index (λ j. Ok j) 0 k))) all ∙ pads_zipped l 0 n ∙ ap (λ j. l ++ values_from_index h j (n - length (items_listed l))) first
 
 -- ---- what it lists
 
@@ -181,31 +181,31 @@ lists_padded m g s f n it h l parts fresh acts i = lists_once _ (lists_for_good_
 -- ---- how long it is
 
 module _ {A : Type 0} where
-  pub length_from_index : (h : ℕ → A) (i k : ℕ) → length (from_index h i k) ≡ k
+  pub length_from_index : (h : ℕ → A) (i k : ℕ) → length (values_from_index h i k) ≡ k
   length_from_index h i zero = refl
   length_from_index h i (suc k) = ap suc (length_from_index h (suc i) k)
 
 module _ {A E : Type 0} (h : ℕ → A) where
-  items_from_index : (l : List (Result A E)) (i k : ℕ) → items_listed (l ++ from_index (λ j. Ok (h j)) i k) ≡ items_listed l ++ from_index h i k
-  items_from_index [] i zero = refl
-  items_from_index [] i (suc k) = ap (λ t. h i ∷ t) (items_from_index [] (suc i) k)
-  items_from_index (Ok x ∷ l) i k = ap (λ t. x ∷ t) (items_from_index l i k)
-  items_from_index (Err e ∷ l) i k = items_from_index l i k
+  items_listed_before_index : (l : List (Result A E)) (i k : ℕ) → items_listed (l ++ values_from_index (λ j. Ok (h j)) i k) ≡ items_listed l ++ values_from_index h i k
+  items_listed_before_index [] i zero = refl
+  items_listed_before_index [] i (suc k) = ap (λ t. h i ∷ t) (items_listed_before_index [] (suc i) k)
+  items_listed_before_index (Ok x ∷ l) i k = ap (λ t. x ∷ t) (items_listed_before_index l i k)
+  items_listed_before_index (Err e ∷ l) i k = items_listed_before_index l i k
 
-  failures_from_index : (l : List (Result A E)) (i k : ℕ) → failures_listed (l ++ from_index (λ j. Ok (h j)) i k) ≡ failures_listed l
+  failures_from_index : (l : List (Result A E)) (i k : ℕ) → failures_listed (l ++ values_from_index (λ j. Ok (h j)) i k) ≡ failures_listed l
   failures_from_index [] i zero = refl
   failures_from_index [] i (suc k) = failures_from_index [] (suc i) k
   failures_from_index (Ok x ∷ l) i k = failures_from_index l i k
   failures_from_index (Err e ∷ l) i k = ap (λ t. e ∷ t) (failures_from_index l i k)
 
   -- Law: The items of `padded` are those of the list, in order, and then what the closure makes of the indices up to n, if it never fails.
-  pub items_of_padded : (n : ℕ) (l : List (Result A E)) → items_listed (padded n (λ i. Ok (h i)) l) ≡ items_listed l ++ from_index h (length (items_listed l)) (n - length (items_listed l))
+  pub items_of_padded : (n : ℕ) (l : List (Result A E)) → items_listed (padded n (λ i. Ok (h i)) l) ≡ items_listed l ++ values_from_index h (length (items_listed l)) (n - length (items_listed l))
   unfolding padded
-  items_of_padded n l = items_from_index l _ _
+  items_of_padded n l = items_listed_before_index l _ _
 
   -- `padded` makes at least n items, if the closure never fails.
   pub length_padded : (n : ℕ) (l : List (Result A E)) → length (items_listed (padded n (λ i. Ok (h i)) l)) ≡ max n (length (items_listed l))
-  length_padded n l = let k = length (items_listed l) in let all : length (items_listed (padded n (λ i. Ok (h i)) l)) ≡ length (items_listed l ++ from_index h k (n - k)) = ap length (items_of_padded n l) in let both = length-append (items_listed l) (from_index h k (n - k)) in let many = length_from_index h k (n - k) in omega (arith, all, both, many)
+  length_padded n l = let k = length (items_listed l) in let all : length (items_listed (padded n (λ i. Ok (h i)) l)) ≡ length (items_listed l ++ values_from_index h k (n - k)) = ap length (items_of_padded n l) in let both = length-append (items_listed l) (values_from_index h k (n - k)) in let many = length_from_index h k (n - k) in omega (arith, all, both, many)
 
   -- The failures of `padded` are the list's, if the closure never fails.
   pub failures_of_padded : (n : ℕ) (l : List (Result A E)) → failures_listed (padded n (λ i. Ok (h i)) l) ≡ failures_listed l

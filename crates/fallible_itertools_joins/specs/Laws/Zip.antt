@@ -14,7 +14,7 @@ use Rattle.fallible_iterator.specs.Traces.{Answered, item, end, Run, Yields}
 use Rattle.fallible_iterator.specs.Laws.Closures.{reaches_reflexive, reaches_by_call_first, is_callable_after, may_answer_of_call, may_answer_where_reached_may_answer}
 use Rattle.fallible_iterator.specs.Laws.LawForm.{IsTraced}
 use Rattle.fallible_itertools_joins.specs.Sides.{MakesTaken, OfEachSide, fused_contract, holding}
-use Rattle.fallible_itertools_joins.specs.Zip.{IndexTrace, MakesPadded, MakesPair, from_index, greater_bound, hint_greater, index_contract, index_step, longest_join, pad_using_contract, padding, pair_join, takes_none, zip_eq_contract, zip_longest_contract}
+use Rattle.fallible_itertools_joins.specs.Zip.{IndexTrace, MakesPadded, MakesPair, values_from_index, greater_bound, hint_greater, index_contract, index_step, longest_join, pad_using_contract, padding, pair_join, takes_none, zip_eq_contract, zip_longest_contract}
 use Rattle.fallible_itertools_joins.specs.Laws.Sides.{Bounds, Counts, CountsHolding, Follows, IsLawfulHolding, IsLawfulJoin, MadeOf, MakesOneAtLeast, MakesOneAtMost, NoItemAfterEnd, OfItem, counts_as, counts_holding, is_lawful_holding, is_lawful_join_as, lawful_beside, lawful_joined}
 use Rattle.fallible_itertools_joins.specs.Laws.Taken.{counts_both_taken, holds_taken, made_taken, of_each_where_each_implies}
 use Rattle.fallible_itertools_joins.specs.declared.zip.EitherOrBoth.{EitherOrBoth}
@@ -134,7 +134,7 @@ lawful_zip_eq g l k = lawful_joined (pair_join (call_of_none g) (takes_none g)) 
 -- ---- The contract of `PadUsing` is lawful where the source's is
 
 module _ (E : Type 0) where
-  run_of_indices : (count ends : ℕ) (p q : ℕ × ℕ) → count ≤ p.1 - p.0 → (0 < ends → p.1 - p.0 ≤ count) → q ≡ (p.0 + count, p.1) → Run (index_step {E = E}) p (from_index (λ i. item i) p.0 count ++ replicate ends end) q
+  run_of_indices : (count ends : ℕ) (p q : ℕ × ℕ) → count ≤ p.1 - p.0 → (0 < ends → p.1 - p.0 ≤ count) → q ≡ (p.0 + count, p.1) → Run (index_step {E = E}) p (values_from_index (λ i. item i) p.0 count ++ replicate ends end) q
   run_of_indices zero zero (i, n) q within over left = let same : i + 0 ≡ i = omega arith in sym (subst (λ (j : ℕ). q ≡ (j, n)) same left)
   run_of_indices zero (suc ends) (i, n) q within over left = let none = over (omega arith) in ((i, n), inr (omega (arith, none), refl, refl), run_of_indices zero ends (i, n) q within (λ h. none) left)
   run_of_indices (suc count) ends (i, n) q within over left = let on : i + suc count ≡ suc i + count = omega arith in ((suc i, n), inl (omega (arith, within), refl, refl), run_of_indices count ends (suc i, n) q (omega (arith, within)) (λ h. let k = over h in omega (arith, k)) (subst (λ (j : ℕ). q ≡ (j, n)) on left))
@@ -188,7 +188,7 @@ module _ {E : Type 0} where
   with_end p q rest none d = let over : d.count ≡ 0 = omega (arith, none, d.within) in record {
     count = 0;
     ends = suc d.ends;
-    answers = ap {B = List (Answered ℕ E)} (λ l. end ∷ l) (subst (λ (c : ℕ). rest ≡ from_index (λ i. item i) p.0 c ++ replicate d.ends end) over d.answers);
+    answers = ap {B = List (Answered ℕ E)} (λ l. end ∷ l) (subst (λ (c : ℕ). rest ≡ values_from_index (λ i. item i) p.0 c ++ replicate d.ends end) over d.answers);
     within = omega arith;
     over = λ h. omega (arith, none);
     left = subst (λ (c : ℕ). q ≡ (p.0 + c, p.1)) over d.left;

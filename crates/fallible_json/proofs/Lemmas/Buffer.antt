@@ -139,8 +139,8 @@ module _ {R W : Type 0} (left : R → Option (List ℕ)) (fails : ErrorKind → 
       unfolding more
       more_done = (so_far_read s.so_far (left q) new came).1
 
-      valid_is : (n : ℕ) → n ≡ valid_of t (front ++ More) (length front) → n ≡ length front + utf8_valid_len More
-      valid_is n is = is ∙ ap (λ l. length front + utf8_valid_len l) (drop-append_seam front More)
+      valid_len_of_front_and_more : (n : ℕ) → n ≡ valid_of t (front ++ More) (length front) → n ≡ length front + utf8_valid_len More
+      valid_len_of_front_and_more n is = is ∙ ap (λ l. length front + utf8_valid_len l) (drop-append_seam front More)
 
       part_is : (n : ℕ) → n ≡ length front + utf8_valid_len More → take n (front ++ More) ≡ front ++ take (utf8_valid_len More) More
       part_is n is = ap (λ (k : ℕ). take k (front ++ More)) is ∙ take-append-add front More (utf8_valid_len More)
@@ -148,10 +148,10 @@ module _ {R W : Type 0} (left : R → Option (List ℕ)) (fails : ErrorKind → 
       comes_of_source : (u : Texts) (f : JsonFault) (told : RunFault TextFault) → TakesPart t (front ++ More) (length front) refused u (Err (Source f)) → EndsFault prints written' written'' (failed w) u (run.Input (record { text = u.count + 1; fault = f })) told → Comes (Err told)
       comes_of_source u f told (within, inl h) (inl ends) =
           let n = valid_of t (front ++ More) (length front) in
-          subst (λ x. Comes (Err x)) (sym ends.0) (told_of_fault more (utf8_valid_len More) refl u f written'' (subst (λ l. FindsFault t l f u) (part_is n (valid_is n refl)) h) ends.1)
+          subst (λ x. Comes (Err x)) (sym ends.0) (told_of_fault more (utf8_valid_len More) refl u f written'' (subst (λ l. FindsFault t l f u) (part_is n (valid_len_of_front_and_more n refl)) h) ends.1)
       comes_of_source u f told (within, inr h) (inl ends) =
           let n = valid_of t (front ++ More) (length front) in
-          let v = valid_is n refl in
+          let v = valid_len_of_front_and_more n refl in
           subst (λ x. Comes (Err x)) (sym ends.0)
           (told_of_broken more (utf8_valid_len More) refl u f written'' (subst (λ l. FindsBroken t l f u) (part_is n v) h.0)
           (subst (λ l. is_some (utf8_error_len l) ≡ true) (ap (λ (k : ℕ). drop k (front ++ More)) v ∙ drop-append-add front More (utf8_valid_len More)) h.1) ends.1)
@@ -167,7 +167,7 @@ module _ {R W : Type 0} (left : R → Option (List ℕ)) (fails : ErrorKind → 
       took v taken valid (u, (is, within, h, unbroken), sends) =
           let n = utf8_valid_len More in
           let few = utf8_valid_len_le More in
-          let v' = valid_is valid is in
+          let v' = valid_len_of_front_and_more valid is in
           let part = front ++ take n More in
           let takes : Takes t part taken u = subst (λ l. Takes t l taken u) (part_is valid v') h in
           let in_part = takes.within in

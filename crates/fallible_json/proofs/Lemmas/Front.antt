@@ -71,8 +71,8 @@ joined_on_word true bytes rest at closed =
     let there : nat_lt at (length (bytes ++ rest)) ≡ true = grind (arith, nat_tests) in
     rw (here, there, byte_in_front bytes rest at within) refl
 
-pub joined_on : (bytes rest : List ℕ) (first last : ℕ) (token : Token) → is_open bytes (Ok (first, last, token)) ≡ false → is_joined (bytes ++ rest) (last, token) ≡ is_joined bytes (last, token)
-joined_on bytes rest first last token closed = joined_on_word (is_word token) bytes rest (last + 1) closed
+pub is_joined_with_more_bytes : (bytes rest : List ℕ) (first last : ℕ) (token : Token) → is_open bytes (Ok (first, last, token)) ≡ false → is_joined (bytes ++ rest) (last, token) ≡ is_joined bytes (last, token)
+is_joined_with_more_bytes bytes rest first last token closed = joined_on_word (is_word token) bytes rest (last + 1) closed
 
 -- ---- the tokens by how the bytes end
 
@@ -96,7 +96,7 @@ front_token bytes place first last end token closed leaves takes =
       omega (arith, begins, short),
       omega (arith, same, short),
       λ rest ending. (
-        joined_on bytes rest first last token closed,
+        is_joined_with_more_bytes bytes rest first last token closed,
         ap (tokens_by ending (bytes ++ rest)) (shown_first _ _ (Ok (first, last, token)) (takes rest)) ∙ kept_first ending (bytes ++ rest) (Ok (first, last, token)) (lexed (placed_from end (bytes ++ rest))) (open_on bytes rest (Ok (first, last, token)) closed),
       ),
     )

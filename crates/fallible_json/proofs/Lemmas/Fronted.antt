@@ -114,22 +114,22 @@ in_step : (containers : List Container) (o : Option Step) (next : State) → 0 <
 in_step containers (Some step) next some is = in_taken containers step next some is
 in_step containers None next some is = absurd cc
 
-none_after : (token : Token) → after_token ([], AfterValue) token ≡ None
-none_after BeginArray = refl
-none_after EndArray = refl
-none_after BeginObject = refl
-none_after EndObject = refl
-none_after NameSeparator = refl
-none_after ValueSeparator = refl
-none_after token.Text = refl
-none_after Number = refl
-none_after Literal = refl
+no_token_after_whole_value : (token : Token) → after_token ([], AfterValue) token ≡ None
+no_token_after_whole_value BeginArray = refl
+no_token_after_whole_value EndArray = refl
+no_token_after_whole_value BeginObject = refl
+no_token_after_whole_value EndObject = refl
+no_token_after_whole_value NameSeparator = refl
+no_token_after_whole_value ValueSeparator = refl
+no_token_after_whole_value token.Text = refl
+no_token_after_whole_value Number = refl
+no_token_after_whole_value Literal = refl
 
 in_after : (containers : List Container) (expects : Expects) (token : Token) (next : State) → IsIn (containers, expects) → after_token (containers, expects) token ≡ Some next → IsIn next
 in_after containers expects token next (inl some) is = in_step containers (step_of expects token) next some is
 in_after (c ∷ containers) expects token next (inr after) is = in_step (c ∷ containers) (step_of expects token) next (omega arith) is
 in_after [] expects token next (inr after) is =
-    let none : after_token ([], expects) token ≡ None = subst (λ e. after_token ([], e) token ≡ None) (sym after) (none_after token) in
+    let none : after_token ([], expects) token ≡ None = subst (λ e. after_token ([], e) token ≡ None) (sym after) (no_token_after_whole_value token) in
     absurd cc
 
 in_begins_not : (containers : List Container) (expects : Expects) → IsIn (containers, expects) → is_begin (containers, expects) ≡ false

@@ -89,8 +89,8 @@ unfolding texts_from
 texts_end origin text (state, json) l is = rw is refl
 
 -- what is left, where nothing more is drawn
-at_last : {t u : Texts} (bytes : List ℕ) (at end : ℕ) (r : Answered Lexeme (LexFault Infallible)) → r ≡ Ok None → (so_far : TakesLast t bytes at u) → TakesShown (last_tokens at bytes) r (last_tokens end bytes) → texts_from t.place bytes complete (begun_of t) (last_tokens 0 bytes) ≡ so_far.texts before at_end u.place bytes (begun_of u)
-at_last {t} {u} bytes at end r is so_far takes =
+takes_last_shown : {t u : Texts} (bytes : List ℕ) (at end : ℕ) (r : Answered Lexeme (LexFault Infallible)) → r ≡ Ok None → (so_far : TakesLast t bytes at u) → TakesShown (last_tokens at bytes) r (last_tokens end bytes) → texts_from t.place bytes complete (begun_of t) (last_tokens 0 bytes) ≡ so_far.texts before at_end u.place bytes (begun_of u)
+takes_last_shown {t} {u} bytes at end r is so_far takes =
     let none = shown_none (last_tokens at bytes) (last_tokens end bytes) (subst (λ k. TakesShown (last_tokens at bytes) k (last_tokens end bytes)) is takes) in
     so_far.goes
     ∙ ap (λ l. so_far.texts before l) (texts_end t.place bytes (begun_of u) (last_tokens at bytes) none ∙ ap (λ p. at_end p bytes (begun_of u)) (sym so_far.place))
@@ -99,14 +99,14 @@ pub last_all : {t u v : Texts} (bytes : List ℕ) (at end : ℕ) (r : Answered L
 last_all {t} {u} {v} bytes at end r is so_far takes ends = record {
   texts = so_far.texts ++ ends.texts;
   ended = end_more so_far.ended ends.ended;
-  all = at_last bytes at end r is so_far takes ∙ ap (λ l. so_far.texts before l) ends.all ∙ sym (map-append (λ text. Ok text) so_far.texts ends.texts);
+  all = takes_last_shown bytes at end r is so_far takes ∙ ap (λ l. so_far.texts before l) ends.all ∙ sym (map-append (λ text. Ok text) so_far.texts ends.texts);
 }
 
 pub last_fault : {t u v : Texts} (bytes : List ℕ) (at end : ℕ) (r : Answered Lexeme (LexFault Infallible)) (fault : JsonFault) → r ≡ Ok None → TakesLast t bytes at u → TakesShown (last_tokens at bytes) r (last_tokens end bytes) → at_end u.place bytes (begun_of u) ≡ Err ((begun_of u).1, fault) ∷ [] → v ≡ u → FindsLastFault t bytes fault v
 last_fault {t} {u} {v} bytes at end r fault is so_far takes fails same = subst (FindsLastFault t bytes fault) (sym same) (record {
   texts = so_far.texts;
   ended = so_far.ended;
-  fails = at_last bytes at end r is so_far takes ∙ ap (λ l. so_far.texts before l) fails;
+  fails = takes_last_shown bytes at end r is so_far takes ∙ ap (λ l. so_far.texts before l) fails;
 })
 
 -- what holds of a value holds of it where that follows

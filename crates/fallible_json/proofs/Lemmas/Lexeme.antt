@@ -3,7 +3,7 @@ use Rattle.std.proofs.Common.{◌≡◌, ℕ, Bool, true, false, List, [], ◌�
 use Rattle.fallible_iterator.specs.Lists.{folded, items, on_value}
 use Rattle.fallible_json.specs.Grammar.{State, after_token, after_tokens, begin, is_whole, IsJsonText}
 use Rattle.fallible_json.specs.Lexing.{Lexeme}
-use Rattle.fallible_json.specs.Minifying.{bytes_of, bytes_of_all, ended, minified, moved, with_lexeme}
+use Rattle.fallible_json.specs.Minifying.{bytes_of, bytes_of_all, ended, minified, moved, after_lexeme}
 use Rattle.fallible_json.specs.Trees.{Tree, tokens_of, written}
 use Rattle.fallible_json.specs.declared.minifying.Misplaced.{Misplaced}
 use Rattle.fallible_json.specs.declared.minifying.Misplaced.TheVariants.{Source}
@@ -26,7 +26,7 @@ with_bytes text json x xs = append_assoc json (bytes_of text x.0 x.1) (bytes_of_
 module _ {E : Type 0} (text : List ℕ) where
   -- what placed tokens make of a state and of the text so far
   abbrev pub After : State → List ℕ → List (Result Lexeme E) → Result (State × List ℕ) (Misplaced E)
-  After state json l = folded (λ e. Source e) (with_lexeme text) (state, json) l
+  After state json l = folded (λ e. Source e) (after_lexeme text) (state, json) l
 
   -- ---- from tokens to placed ones
 

@@ -34,11 +34,11 @@ pub is_blank_byte : (byte : ℕ) → is_blank byte ≡ true → IsBlank (byte �
 is_blank_byte byte is = blank_byte _ _ _ _ byte refl refl refl refl is
 
 -- a blank is one byte
-pub blank_is : (text : List ℕ) → IsBlank text → (byte : ℕ) × (text ≡ byte ∷ []) × (is_blank byte ≡ true)
-blank_is text (inl is) = (32, is, refl)
-blank_is text (inr (inl is)) = (9, is, refl)
-blank_is text (inr (inr (inl is))) = (10, is, refl)
-blank_is text (inr (inr (inr is))) = (13, is, refl)
+pub blank_is_one_byte : (text : List ℕ) → IsBlank text → (byte : ℕ) × (text ≡ byte ∷ []) × (is_blank byte ≡ true)
+blank_is_one_byte text (inl is) = (32, is, refl)
+blank_is_one_byte text (inr (inl is)) = (9, is, refl)
+blank_is_one_byte text (inr (inr (inl is))) = (10, is, refl)
+blank_is_one_byte text (inr (inr (inr is))) = (13, is, refl)
 
 abbrev StartsNoBlank : List ℕ → Type 0
 StartsNoBlank [] = ⊤
@@ -81,7 +81,7 @@ module _ {E : Type 0} where
   unfolding Times
   blanks_skipped zero blanks rest place none = rw none (ap (λ k. Read None k rest) (omega arith))
   blanks_skipped (suc n) blanks rest place (front, others, is, one, more) =
-      let k = blank_is front one in
+      let k = blank_is_one_byte front one in
       one_blank_skipped k.0 place n blanks front others rest k.2 k.1 is (blanks_skipped n others rest (place + 1) more)
 
   -- ---- the run of a token

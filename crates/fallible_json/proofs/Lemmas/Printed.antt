@@ -19,7 +19,7 @@ use Rattle.fallible_json.specs.declared.token.Phase.TheVariants.{Whole, Inside, 
 use Rattle.fallible_json.specs.declared.token.Token.{Token}
 use Rattle.fallible_json.specs.declared.token.Token.TheVariants.{BeginArray, EndArray, BeginObject, EndObject, NameSeparator, ValueSeparator, Text, Number, Literal}
 use Rattle.fallible_json.specs.Reading.{read}
-use Rattle.fallible_json.proofs.Lemmas.Parted.{ReadsToken, Stops, blank_is, longest_of_stops, read_begun, reads_token}
+use Rattle.fallible_json.proofs.Lemmas.Parted.{ReadsToken, Stops, blank_is_one_byte, longest_of_stops, read_begun, reads_token}
 
 -- ---- no number stands right after another
 
@@ -115,7 +115,7 @@ ends_before_blanks : (n : ℕ) (bytes rest : List ℕ) → Times n IsBlank bytes
 unfolding Times
 ends_before_blanks zero bytes rest none ends = rw none ends
 ends_before_blanks (suc n) bytes rest (front, others, is, one, more) ends =
-    let k = blank_is front one in
+    let k = blank_is_one_byte front one in
     let whole : bytes ≡ k.0 ∷ others = is ∙ ap (λ z. z ++ others) k.1 in
     subst (λ z. EndsBefore (z ++ rest)) (sym whole) (blank_ends k.0 front one k.1)
 

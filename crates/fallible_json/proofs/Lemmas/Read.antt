@@ -6,7 +6,7 @@ use Rattle.std.proofs.Common.{arith, refl, ap, sym, subst, inl, inr, ◌∙◌, 
 use Rattle.std.proofs.lemmas.Bool.Decides.{Decides-eqb, nat_tests}
 use Rattle.fallible_json.proofs.Reading.{token_begun, token_read}
 use Rattle.fallible_json.specs.Reading.{read}
-use Rattle.fallible_json.specs.Spelling.{Rule, Byte, ◌then◌, ◌or◌, Maybe, Times, Many, OneOrMore, IsDigit, IsInt, IsFrac, IsExp, IsHexDigit, IsUnescaped, IsEscaped, IsChar, Just, IsSpelled}
+use Rattle.fallible_json.specs.Spelling.{Rule, Byte, ◌then◌, ◌or◌, Maybe, Times, Many, OneOrMore, IsDigit, IsInt, IsFrac, IsExp, IsHexDigit, IsUnescaped, IsEscaped, IsChar, Exactly, IsSpelled}
 use Rattle.fallible_json.specs.Tokens.{after, after_fraction, after_integer, after_sign, begun_by, first_digit, goes_if, is_escaped, token_of, begun_or}
 use Rattle.fallible_json.specs.declared.token.Phase.{Phase}
 use Rattle.fallible_json.specs.declared.token.Phase.TheVariants.{Whole, Inside, Escape, FourDigits, ThreeDigits, TwoDigits, OneDigit, Minus, Zero, Integer, Point, Fraction, Exponent, Sign, Power, T, Tr, Tru, F, Fa, Fal, Fals, N, Nu, Nul}
@@ -41,7 +41,7 @@ abbrev InString : Rule
 InString = Many IsChar then Byte 34
 
 abbrev pub Rest : Phase → Rule
-Rest (Whole token) = Just []
+Rest (Whole token) = Exactly []
 Rest Inside = InString
 Rest Escape = IsEscaped then InString
 Rest FourDigits = Times 4 IsHexDigit then InString
@@ -56,16 +56,16 @@ Rest Fraction = Many IsDigit then Maybe IsExp
 Rest Exponent = Maybe (Byte 43 or Byte 45) then OneOrMore IsDigit
 Rest Sign = OneOrMore IsDigit
 Rest Power = Many IsDigit
-Rest T = Just (codes "rue")
-Rest Tr = Just (codes "ue")
-Rest Tru = Just (codes "e")
-Rest F = Just (codes "alse")
-Rest Fa = Just (codes "lse")
-Rest Fal = Just (codes "se")
-Rest Fals = Just (codes "e")
-Rest N = Just (codes "ull")
-Rest Nu = Just (codes "ll")
-Rest Nul = Just (codes "l")
+Rest T = Exactly (codes "rue")
+Rest Tr = Exactly (codes "ue")
+Rest Tru = Exactly (codes "e")
+Rest F = Exactly (codes "alse")
+Rest Fa = Exactly (codes "lse")
+Rest Fal = Exactly (codes "se")
+Rest Fals = Exactly (codes "e")
+Rest N = Exactly (codes "ull")
+Rest Nu = Exactly (codes "ll")
+Rest Nul = Exactly (codes "l")
 
 -- the token that a phase is of
 abbrev pub kind : Phase → Token
@@ -103,8 +103,8 @@ abbrev Adds : Phase → ℕ → Phase → List ℕ → Type 0
 Adds phase byte next bytes = Rest phase (byte ∷ bytes) × (kind next ≡ kind phase)
 
 -- at a test, with what the rest is where it goes on
-adds_if : (b : Bool) (phase to next : Phase) (byte : ℕ) (bytes : List ℕ) → goes_if b to ≡ Some next → kind to ≡ kind phase → (b ≡ true → Rest to bytes → Rest phase (byte ∷ bytes)) → Rest next bytes → Adds phase byte next bytes
-adds_if b phase to next byte bytes is same by h =
+rest_of_tested_byte : (b : Bool) (phase to next : Phase) (byte : ℕ) (bytes : List ℕ) → goes_if b to ≡ Some next → kind to ≡ kind phase → (b ≡ true → Rest to bytes → Rest phase (byte ∷ bytes)) → Rest next bytes → Adds phase byte next bytes
+rest_of_tested_byte b phase to next byte bytes is same by h =
     let k = goes_of b to next is in
     (by k.0 (subst (λ p. Rest p bytes) (sym k.1) h), ap kind (sym k.1) ∙ same)
 
@@ -117,8 +117,8 @@ hex_digit_of false true d byte one two three is = inr (inl (byte, two, refl))
 hex_digit_of false false true byte one two three is = inr (inr (byte, three, refl))
 hex_digit_of false false false byte one two three is = absurd cc
 
-is_hex_digit : (byte : ℕ) → is_ascii_hexdigit byte ≡ true → IsHexDigit (byte ∷ [])
-is_hex_digit byte is = hex_digit_of _ _ _ byte refl refl refl is
+is_hex_digit_of_ascii : (byte : ℕ) → is_ascii_hexdigit byte ≡ true → IsHexDigit (byte ∷ [])
+is_hex_digit_of_ascii byte is = hex_digit_of _ _ _ byte refl refl refl is
 
 unescaped_of : (b c : Bool) (byte : ℕ) → is_in_range 32 33 byte ≡ b → is_in_range 35 91 byte ≡ c → (byte == 34) ≡ false → (byte == 92) ≡ false → nat_le 32 byte ≡ true → IsUnescaped (byte ∷ [])
 unescaped_of true c byte one two quote slash low = inl (byte, one, refl)
@@ -135,7 +135,7 @@ inside_adds false true byte next bytes quote slash is h =
     let rest : Rest Escape bytes = subst (λ k. Rest k bytes) (sym same) h in
     let chars : InString ((byte ∷ rest.0) ++ rest.1) = one_more_then IsChar (Byte 34) (byte ∷ rest.0) rest.1 (inr (byte ∷ [], rest.0, refl, is_byte byte 92 slash, rest.3)) rest.4 in
     (subst InString (sym (ap (λ k. byte ∷ k) rest.2)) chars, ap kind (sym same))
-inside_adds false false byte next bytes quote slash is h = adds_if (nat_le 32 byte) Inside Inside next byte bytes is refl (λ low rest. one_more_then IsChar (Byte 34) (byte ∷ []) bytes (inl (unescaped_of _ _ byte refl refl quote slash low)) rest) h
+inside_adds false false byte next bytes quote slash is h = rest_of_tested_byte (nat_le 32 byte) Inside Inside next byte bytes is refl (λ low rest. one_more_then IsChar (Byte 34) (byte ∷ []) bytes (inl (unescaped_of _ _ byte refl refl quote slash low)) rest) h
 
 escaped_of : (b1 b2 b3 b4 b5 b6 b7 b8 : Bool) (byte : ℕ) → (byte == 34) ≡ b1 → (byte == 92) ≡ b2 → (byte == 47) ≡ b3 → (byte == 98) ≡ b4 → (byte == 102) ≡ b5 → (byte == 110) ≡ b6 → (byte == 114) ≡ b7 → (byte == 116) ≡ b8 → (b1 || b2 || b3 || b4 || b5 || b6 || b7 || b8) ≡ true → IsEscaped (byte ∷ [])
 escaped_of true b2 b3 b4 b5 b6 b7 b8 byte e1 e2 e3 e4 e5 e6 e7 e8 is = inl (is_byte byte 34 e1)
@@ -155,15 +155,15 @@ escape_adds : (t : Bool) (byte : ℕ) (next : Phase) (bytes : List ℕ) → (byt
 escape_adds true byte next bytes letter is h =
     let same : FourDigits ≡ next = cc in
     (with_first {A = Times 4 IsHexDigit} {B = IsEscaped} {C = InString} byte bytes (λ front four. inr (inr (inr (inr (inr (inr (inr (inr (byte ∷ [], front, refl, is_byte byte 117 letter, four))))))))) (subst (λ k. Rest k bytes) (sym same) h), ap kind (sym same))
-escape_adds false byte next bytes letter is h = adds_if (is_escaped byte) Escape Inside next byte bytes is refl (λ one rest. is_first {A = IsEscaped} {B = InString} byte bytes (is_escaped_byte byte one) rest) h
+escape_adds false byte next bytes letter is h = rest_of_tested_byte (is_escaped byte) Escape Inside next byte bytes is refl (λ one rest. is_first {A = IsEscaped} {B = InString} byte bytes (is_escaped_byte byte one) rest) h
 
 hex_adds : (n : ℕ) (byte : ℕ) (bytes : List ℕ) → is_ascii_hexdigit byte ≡ true → (Times n IsHexDigit then InString) bytes → (Times (suc n) IsHexDigit then InString) (byte ∷ bytes)
 unfolding Times
-hex_adds n byte bytes is rest = with_first {A = Times n IsHexDigit} {B = Times (suc n) IsHexDigit} {C = InString} byte bytes (λ front more. (byte ∷ [], front, refl, is_hex_digit byte is, more)) rest
+hex_adds n byte bytes is rest = with_first {A = Times n IsHexDigit} {B = Times (suc n) IsHexDigit} {C = InString} byte bytes (λ front more. (byte ∷ [], front, refl, is_hex_digit_of_ascii byte is, more)) rest
 
 last_hex_adds : (byte : ℕ) (bytes : List ℕ) → is_ascii_hexdigit byte ≡ true → InString bytes → (Times 1 IsHexDigit then InString) (byte ∷ bytes)
 unfolding Times
-last_hex_adds byte bytes is rest = is_first {A = Times 1 IsHexDigit} {B = InString} byte bytes (byte ∷ [], [], refl, is_hex_digit byte is, refl) rest
+last_hex_adds byte bytes is rest = is_first {A = Times 1 IsHexDigit} {B = InString} byte bytes (byte ∷ [], [], refl, is_hex_digit_of_ascii byte is, refl) rest
 
 digits_add : (byte : ℕ) (bytes : List ℕ) → is_ascii_digit byte ≡ true → Many IsDigit bytes → Many IsDigit (byte ∷ bytes)
 digits_add byte bytes is more = one_more IsDigit (byte ∷ []) bytes (digit_of byte is) more
@@ -175,7 +175,7 @@ first_digit_adds : (t : Bool) (byte : ℕ) (next : Phase) (bytes : List ℕ) →
 first_digit_adds true byte next bytes nought is h =
     let same : Zero ≡ next = cc in
     (is_first {A = IsInt} {B = Maybe IsFrac then Maybe IsExp} byte bytes (inl (is_byte byte 48 nought)) (subst (λ k. Rest k bytes) (sym same) h), ap kind (sym same))
-first_digit_adds false byte next bytes nought is h = adds_if (is_ascii_digit byte) Minus Integer next byte bytes is refl (λ digit rest. with_first {A = Many IsDigit} {B = IsInt} {C = Maybe IsFrac then Maybe IsExp} byte bytes (λ front more. inr (byte ∷ [], front, refl, (byte, grind (arith, nat_tests), refl), more)) rest) h
+first_digit_adds false byte next bytes nought is h = rest_of_tested_byte (is_ascii_digit byte) Minus Integer next byte bytes is refl (λ digit rest. with_first {A = Many IsDigit} {B = IsInt} {C = Maybe IsFrac then Maybe IsExp} byte bytes (λ front more. inr (byte ∷ [], front, refl, (byte, grind (arith, nat_tests), refl), more)) rest) h
 
 e_of : (b c : Bool) (byte : ℕ) → (byte == 101) ≡ b → (byte == 69) ≡ c → (b || c) ≡ true → (Byte 101 or Byte 69) (byte ∷ [])
 e_of true c byte small great is = inl (is_byte byte 101 small)
@@ -220,7 +220,7 @@ exponent_adds : (t : Bool) (byte : ℕ) (next : Phase) (bytes : List ℕ) → (b
 exponent_adds true byte next bytes sign is h =
     let same : Sign ≡ next = cc in
     (is_first {A = Maybe (Byte 43 or Byte 45)} {B = OneOrMore IsDigit} byte bytes (inr (sign_byte_of _ _ byte refl refl sign)) (subst (λ k. Rest k bytes) (sym same) h), ap kind (sym same))
-exponent_adds false byte next bytes sign is h = adds_if (is_ascii_digit byte) Exponent Power next byte bytes is refl (λ digit rest. skips_none {A = Maybe (Byte 43 or Byte 45)} {B = OneOrMore IsDigit} (byte ∷ bytes) (inl refl) (some_digits_of byte bytes digit rest)) h
+exponent_adds false byte next bytes sign is h = rest_of_tested_byte (is_ascii_digit byte) Exponent Power next byte bytes is refl (λ digit rest. skips_none {A = Maybe (Byte 43 or Byte 45)} {B = OneOrMore IsDigit} (byte ∷ bytes) (inl refl) (some_digits_of byte bytes digit rest)) h
 
 letters : (n b : ℕ) (bs text : List ℕ) → b ≡ n → bs ≡ text → b ∷ bs ≡ n ∷ text
 letters n b bs text one others = rw (one, others) refl
@@ -229,28 +229,28 @@ pub adds : (phase next : Phase) (byte : ℕ) (bytes : List ℕ) → after phase 
 adds (Whole token) next byte bytes is h = absurd cc
 adds Inside next byte bytes is h = inside_adds (byte == 34) (byte == 92) byte next bytes refl refl is h
 adds Escape next byte bytes is h = escape_adds (byte == 117) byte next bytes refl is h
-adds FourDigits next byte bytes is h = adds_if (is_ascii_hexdigit byte) FourDigits ThreeDigits next byte bytes is refl (λ digit rest. hex_adds 3 byte bytes digit rest) h
-adds ThreeDigits next byte bytes is h = adds_if (is_ascii_hexdigit byte) ThreeDigits TwoDigits next byte bytes is refl (λ digit rest. hex_adds 2 byte bytes digit rest) h
-adds TwoDigits next byte bytes is h = adds_if (is_ascii_hexdigit byte) TwoDigits OneDigit next byte bytes is refl (λ digit rest. hex_adds 1 byte bytes digit rest) h
-adds OneDigit next byte bytes is h = adds_if (is_ascii_hexdigit byte) OneDigit Inside next byte bytes is refl (λ digit rest. last_hex_adds byte bytes digit rest) h
+adds FourDigits next byte bytes is h = rest_of_tested_byte (is_ascii_hexdigit byte) FourDigits ThreeDigits next byte bytes is refl (λ digit rest. hex_adds 3 byte bytes digit rest) h
+adds ThreeDigits next byte bytes is h = rest_of_tested_byte (is_ascii_hexdigit byte) ThreeDigits TwoDigits next byte bytes is refl (λ digit rest. hex_adds 2 byte bytes digit rest) h
+adds TwoDigits next byte bytes is h = rest_of_tested_byte (is_ascii_hexdigit byte) TwoDigits OneDigit next byte bytes is refl (λ digit rest. hex_adds 1 byte bytes digit rest) h
+adds OneDigit next byte bytes is h = rest_of_tested_byte (is_ascii_hexdigit byte) OneDigit Inside next byte bytes is refl (λ digit rest. last_hex_adds byte bytes digit rest) h
 adds Minus next byte bytes is h = first_digit_adds (byte == 48) byte next bytes refl is h
 adds Zero next byte bytes is h = integer_adds (byte == 46) byte next bytes refl is h
 adds Integer next byte bytes is h = digit_or_integer_adds (is_ascii_digit byte) byte next bytes refl is h
-adds Point next byte bytes is h = adds_if (is_ascii_digit byte) Point Fraction next byte bytes is refl (λ digit rest. with_first {A = Many IsDigit} {B = OneOrMore IsDigit} {C = Maybe IsExp} byte bytes (λ front more. some_digits_of byte front digit more) rest) h
+adds Point next byte bytes is h = rest_of_tested_byte (is_ascii_digit byte) Point Fraction next byte bytes is refl (λ digit rest. with_first {A = Many IsDigit} {B = OneOrMore IsDigit} {C = Maybe IsExp} byte bytes (λ front more. some_digits_of byte front digit more) rest) h
 adds Fraction next byte bytes is h = fraction_adds (is_ascii_digit byte) byte next bytes refl is h
 adds Exponent next byte bytes is h = exponent_adds (byte == 43 || byte == 45) byte next bytes refl is h
-adds Sign next byte bytes is h = adds_if (is_ascii_digit byte) Sign Power next byte bytes is refl (λ digit rest. some_digits_of byte bytes digit rest) h
-adds Power next byte bytes is h = adds_if (is_ascii_digit byte) Power Power next byte bytes is refl (λ digit rest. digits_add byte bytes digit rest) h
-adds T next byte bytes is h = adds_if (byte == 114) T Tr next byte bytes is refl (λ one rest. letters 114 byte bytes (codes "ue") (same_byte byte 114 one) rest) h
-adds Tr next byte bytes is h = adds_if (byte == 117) Tr Tru next byte bytes is refl (λ one rest. letters 117 byte bytes (codes "e") (same_byte byte 117 one) rest) h
-adds Tru next byte bytes is h = adds_if (byte == 101) Tru (Whole Literal) next byte bytes is refl (λ one rest. letters 101 byte bytes [] (same_byte byte 101 one) rest) h
-adds F next byte bytes is h = adds_if (byte == 97) F Fa next byte bytes is refl (λ one rest. letters 97 byte bytes (codes "lse") (same_byte byte 97 one) rest) h
-adds Fa next byte bytes is h = adds_if (byte == 108) Fa Fal next byte bytes is refl (λ one rest. letters 108 byte bytes (codes "se") (same_byte byte 108 one) rest) h
-adds Fal next byte bytes is h = adds_if (byte == 115) Fal Fals next byte bytes is refl (λ one rest. letters 115 byte bytes (codes "e") (same_byte byte 115 one) rest) h
-adds Fals next byte bytes is h = adds_if (byte == 101) Fals (Whole Literal) next byte bytes is refl (λ one rest. letters 101 byte bytes [] (same_byte byte 101 one) rest) h
-adds N next byte bytes is h = adds_if (byte == 117) N Nu next byte bytes is refl (λ one rest. letters 117 byte bytes (codes "ll") (same_byte byte 117 one) rest) h
-adds Nu next byte bytes is h = adds_if (byte == 108) Nu Nul next byte bytes is refl (λ one rest. letters 108 byte bytes (codes "l") (same_byte byte 108 one) rest) h
-adds Nul next byte bytes is h = adds_if (byte == 108) Nul (Whole Literal) next byte bytes is refl (λ one rest. letters 108 byte bytes [] (same_byte byte 108 one) rest) h
+adds Sign next byte bytes is h = rest_of_tested_byte (is_ascii_digit byte) Sign Power next byte bytes is refl (λ digit rest. some_digits_of byte bytes digit rest) h
+adds Power next byte bytes is h = rest_of_tested_byte (is_ascii_digit byte) Power Power next byte bytes is refl (λ digit rest. digits_add byte bytes digit rest) h
+adds T next byte bytes is h = rest_of_tested_byte (byte == 114) T Tr next byte bytes is refl (λ one rest. letters 114 byte bytes (codes "ue") (same_byte byte 114 one) rest) h
+adds Tr next byte bytes is h = rest_of_tested_byte (byte == 117) Tr Tru next byte bytes is refl (λ one rest. letters 117 byte bytes (codes "e") (same_byte byte 117 one) rest) h
+adds Tru next byte bytes is h = rest_of_tested_byte (byte == 101) Tru (Whole Literal) next byte bytes is refl (λ one rest. letters 101 byte bytes [] (same_byte byte 101 one) rest) h
+adds F next byte bytes is h = rest_of_tested_byte (byte == 97) F Fa next byte bytes is refl (λ one rest. letters 97 byte bytes (codes "lse") (same_byte byte 97 one) rest) h
+adds Fa next byte bytes is h = rest_of_tested_byte (byte == 108) Fa Fal next byte bytes is refl (λ one rest. letters 108 byte bytes (codes "se") (same_byte byte 108 one) rest) h
+adds Fal next byte bytes is h = rest_of_tested_byte (byte == 115) Fal Fals next byte bytes is refl (λ one rest. letters 115 byte bytes (codes "e") (same_byte byte 115 one) rest) h
+adds Fals next byte bytes is h = rest_of_tested_byte (byte == 101) Fals (Whole Literal) next byte bytes is refl (λ one rest. letters 101 byte bytes [] (same_byte byte 101 one) rest) h
+adds N next byte bytes is h = rest_of_tested_byte (byte == 117) N Nu next byte bytes is refl (λ one rest. letters 117 byte bytes (codes "ll") (same_byte byte 117 one) rest) h
+adds Nu next byte bytes is h = rest_of_tested_byte (byte == 108) Nu Nul next byte bytes is refl (λ one rest. letters 108 byte bytes (codes "l") (same_byte byte 108 one) rest) h
+adds Nul next byte bytes is h = rest_of_tested_byte (byte == 108) Nul (Whole Literal) next byte bytes is refl (λ one rest. letters 108 byte bytes [] (same_byte byte 108 one) rest) h
 
 -- ---- whole tokens
 

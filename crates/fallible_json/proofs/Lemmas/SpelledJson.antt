@@ -16,7 +16,7 @@ use Rattle.fallible_json.specs.Spelling.{IsBlank, Times}
 use Rattle.fallible_json.specs.Trees.{Tree, tokens_of, written}
 use Rattle.fallible_json.proofs.Lemmas.Json.{is_json_of_tree, tree_of_json}
 use Rattle.fallible_json.proofs.Lemmas.Lexeme.{alive_of_text}
-use Rattle.fallible_json.proofs.Lemmas.Parted.{blank_is, lexed_of_spell, spell_of_lexed}
+use Rattle.fallible_json.proofs.Lemmas.Parted.{blank_is_one_byte, lexed_of_spell, spell_of_lexed}
 use Rattle.fallible_json.proofs.Lemmas.Printed.{Spells, bytes_of_token, each_spelled, joined, joined_spelled, longest_of_text, next_place, placed, placed_spells, spelled_placed, spells_of_longest, splits_at, tokens_placed, tokens_spelled}
 use Rattle.fallible_json.proofs.Lemmas.Parted.{reads_token}
 use Rattle.fallible_json.proofs.Lemmas.Tree.{is_text_written}
@@ -58,7 +58,7 @@ without_blanks : (n : ℕ) (front blanks rest : List ℕ) → Times n IsBlank bl
 unfolding Times
 without_blanks zero front blanks rest none utf8 = subst (λ z. IsUtf8 (front ++ (z ++ rest))) none utf8
 without_blanks (suc n) front blanks rest (one, others, is, blank, more) utf8 =
-    let k = blank_is one blank in
+    let k = blank_is_one_byte one blank in
     let whole : blanks ≡ k.0 ∷ others = is ∙ ap (λ z. z ++ others) k.1 in
     without_blanks n front others rest more (without_ascii front (others ++ rest) k.0 (blank_is_ascii k.0 one blank k.1) (subst (λ z. IsUtf8 (front ++ (z ++ rest))) whole utf8))
 

@@ -28,8 +28,8 @@ bytes_if true bytes rest first last is within =
 bytes_if false bytes rest first last is within = rw is refl
 
 -- a token of bytes has the same bytes whatever comes after them
-pub bytes_before : (bytes rest : List ℕ) (first last : ℕ) → last < length bytes → bytes_of (bytes ++ rest) first last ≡ bytes_of bytes first last
-bytes_before bytes rest first last within = bytes_if (nat_le first last) bytes rest first last refl within
+pub bytes_of_token_with_more : (bytes rest : List ℕ) (first last : ℕ) → last < length bytes → bytes_of (bytes ++ rest) first last ≡ bytes_of bytes first last
+bytes_of_token_with_more bytes rest first last within = bytes_if (nat_le first last) bytes rest first last refl within
 
 -- ---- texts that ended
 
@@ -81,7 +81,7 @@ ends_text_with t u is lines whole count containers expects place =
 module _ (t : Texts) (bytes : List ℕ) (x : Lexeme) (v : Texts) (adds : AddsToken t bytes x v) (within : x.1 < length bytes) where
   -- what is begun after it, of bytes with others after them
   begun_after : (rest : List ℕ) → (begun_of t).1 ++ bytes_of (bytes ++ rest) x.0 x.1 ≡ (begun_of v).1
-  begun_after rest = ap (λ z. (begun_of t).1 ++ z) (bytes_before bytes rest x.0 x.1 within) ∙ sym adds.json
+  begun_after rest = ap (λ z. (begun_of t).1 ++ z) (bytes_of_token_with_more bytes rest x.0 x.1 within) ∙ sym adds.json
 
   -- what the texts are from it on
   texts_from_token : (ends : Bool) (origin : ℕ × ℕ) (rest : List ℕ) (ending : Ending) (l : Tokens) → ends_text (bytes ++ rest) (begun_of v).0 (x.1, x.2) ≡ ends → texts_from origin (bytes ++ rest) ending (begun_of t) (Ok x ∷ l) ≡ where_ends ends (begun_of v) (λ c. texts_from origin (bytes ++ rest) ending c l)

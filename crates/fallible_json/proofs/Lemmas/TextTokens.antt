@@ -156,8 +156,8 @@ lexed_blank_in text rest at within is = lexed_blank (text ++ rest) at (at + 1) r
 pub run_goes_in : (text rest : List ℕ) (at : ℕ) (phase next : Phase) → at < length text → after phase (get_or text at 0) ≡ Some next → run_from (text ++ rest) at phase ≡ run_from (text ++ rest) (at + 1) next
 run_goes_in text rest at phase next within is = run_goes_at (text ++ rest) at (at + 1) phase next refl (within_front text rest at within) (ap (after phase) (byte_in_front text rest at within) ∙ is)
 
-pub whole_goes : (phase : Phase) (token : Token) (byte : ℕ) → phase ≡ Whole token → after phase byte ≡ None
-whole_goes phase token byte is = rw is refl
+pub no_byte_after_whole : (phase : Phase) (token : Token) (byte : ℕ) → phase ≡ Whole token → after phase byte ≡ None
+no_byte_after_whole phase token byte is = rw is refl
 
 -- a run that ends within the text, or at its end
 pub run_ends_in : (text rest : List ℕ) (at : ℕ) (phase : Phase) → at < length text → after phase (get_or text at 0) ≡ None → Stops (text ++ rest) at phase

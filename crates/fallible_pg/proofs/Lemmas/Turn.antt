@@ -14,8 +14,8 @@ use Rattle.fallible_pg.specs.declared.kind.Kind.{Kind}
 use Rattle.fallible_pg.specs.declared.kind.Kind.TheVariants as Is
 
 -- a message off the front
-pub turns_of-message : (reached : Reached) (place : ℕ) (m rest : List ℕ) → IsMessage m → turns_of reached place (m ++ rest) ≡ turn_by (kind_of reached.recorded m) place m reached (λ next. turns_of next (place + length m) rest)
-turns_of-message reached place m rest is = ap (turns_from reached place) (messages_of-message place m rest is)
+pub turns_of_first_message : (reached : Reached) (place : ℕ) (m rest : List ℕ) → IsMessage m → turns_of reached place (m ++ rest) ≡ turn_by (kind_of reached.recorded m) place m reached (λ next. turns_of next (place + length m) rest)
+turns_of_first_message reached place m rest is = ap (turns_from reached place) (messages_of-message place m rest is)
 
 pub turns_of-damage : (reached : Reached) (place : ℕ) (bytes : List ℕ) (damage : Damage) → 1 ≤ length bytes → first_size bytes ≡ Err damage → turns_of reached place bytes ≡ damaged place damage ∷ []
 turns_of-damage reached place bytes damage some is = ap (turns_from reached place) (messages_of-damage place bytes damage some is)
@@ -41,7 +41,7 @@ turns_of-skipped reached place (m ∷ ms) rest each =
     let long = length-append m (concat ms) in
     let on : (place + length m) + length (concat ms) ≡ place + length (m ++ concat ms) = omega (arith, long) in
     ap (turns_of reached place) (append_assoc m (concat ms) rest)
-    ∙ turns_of-message reached place m (concat ms ++ rest) one.0
+    ∙ turns_of_first_message reached place m (concat ms ++ rest) one.0
     ∙ ap (λ (k : Kind). turn_by k place m reached (λ after. turns_of after (place + length m) (concat ms ++ rest))) one.1
     ∙ turns_of-skipped next (place + length m) ms rest (All-tail (IsOfKind reached.recorded Is.Skipped) m ms each)
     ∙ ap (λ (n : ℕ). turns_of (reached_by next ms) n rest) on

@@ -17,13 +17,13 @@ use Rattle.program_io.specs.declared.reading.Lent.{Lent}
 use Rattle.fallible_rows.specs.declared.rows.Ahead.{Ahead}
 
 -- no row is answered by a read that failed
-no_read : (place : ℕ) (rs : List (List ℕ)) (xs : List ℕ) → row_answers place rs ≡ map item xs ++ failure Read ∷ [] → ⊥
-no_read place rs xs e = let other = (refused_rows place rs xs Read e).fault in absurd cc
+rows_never_fail_to_read : (place : ℕ) (rs : List (List ℕ)) (xs : List ℕ) → row_answers place rs ≡ map item xs ++ failure Read ∷ [] → ⊥
+rows_never_fail_to_read place rs xs e = let other = (refused_rows place rs xs Read e).fault in absurd cc
 
 module _ {B : Type 0} {left : B → Option (List ℕ)} {stays : Bool → B → B → Type 0} {r : B} {a : Ahead} {p : B × Option Ahead} (most : a.left ≡ byte_limit) (xs : List ℕ) where
   fails_by_rows : (trace : List (Answered ℕ RowFault)) → trace ≡ map item xs ++ failure Read ∷ [] → ReadsRows left stays r a trace p → FailsReading left stays r p.0
   fails_by_rows trace are h = elim h.stopped [
-    | inl s ↦ absurd (no_read a.place (rows h.closed) xs (sym s.answers ∙ are))
+    | inl s ↦ absurd (rows_never_fail_to_read a.place (rows h.closed) xs (sym s.answers ∙ are))
     | inr k ↦ elim k [
       | inl s ↦ absurd (at_end s s.ends s.answers)
       | inr s ↦ (h.closed ++ h.unclosed, h.last, consumes_given left stays (h.closed ++ h.unclosed) r h.last h.given, elim s.missed [ inl m ↦ inl (m.0 ∙ most) | inr m ↦ inr m.1.1 ])
@@ -31,7 +31,7 @@ module _ {B : Type 0} {left : B → Option (List ℕ)} {stays : Bool → B → B
   ]
     where
       at_end : StopsAtEnd left stays h.last a h.closed h.unclosed trace p → (n : ℕ) → trace ≡ row_answers a.place (rows (h.closed ++ h.unclosed)) ++ replicate n end → ⊥
-      at_end s zero d = no_read a.place (rows (h.closed ++ h.unclosed)) xs (sym (append-nil (row_answers a.place (rows (h.closed ++ h.unclosed)))) ∙ sym d ∙ are)
+      at_end s zero d = rows_never_fail_to_read a.place (rows (h.closed ++ h.unclosed)) xs (sym (append-nil (row_answers a.place (rows (h.closed ++ h.unclosed)))) ∙ sym d ∙ are)
       at_end s (suc n) d = absurd (let m = (items_then_last (row_answers a.place (rows (h.closed ++ h.unclosed))) (replicate n end) end (failure Read) xs no_item_end (sym d ∙ are)).1 in cc)
 
   -- the count of a chain over the first rows, where it is `Read`

@@ -2,7 +2,7 @@
 use Rattle.std.proofs.Common.{arith, rules, ◌∙◌, refl, get_or}
 use Rattle.fallible_json.specs.declared.token.Phase.TheVariants.{Whole}
 use Rattle.fallible_json.specs.declared.token.Token.TheVariants.{Text}
-use Rattle.fallible_json.proofs.Lemmas.TextTokens.{quote_goes, run_goes_in, whole_goes}
+use Rattle.fallible_json.proofs.Lemmas.TextTokens.{quote_goes, run_goes_in, no_byte_after_whole}
 use Rattle.fallible_json.proofs.text.run_in.Goals as goal
 
 pub loop-phase-init : goal.loop-phase-init
@@ -13,7 +13,7 @@ returns-in-Whole c = record {
   later = c.loop-phase.invariant.0;
   within = c.loop-phase.invariant.1;
   run = c.loop-phase.invariant.2;
-  ends = λ within. whole_goes c.loop-phase.phase c.in-Whole.field-0 (get_or c.args.text.now c.loop-phase.at 0) c.in-Whole.is;
+  ends = λ within. no_byte_after_whole c.loop-phase.phase c.in-Whole.field-0 (get_or c.args.text.now c.loop-phase.at 0) c.in-Whole.is;
 }
 
 pub returns-then-text-end : goal.returns-then-text-end
