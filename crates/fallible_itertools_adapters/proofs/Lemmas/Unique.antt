@@ -51,10 +51,14 @@ module _ {I P Z A E : Type 0} (steps : I → Answered A E → I → Type 0) (ask
   abbrev Step : I × P → Answered A E → I × P → Type 0
   Step = passing_step steps asks as_answered_item
 
+  -- r is the first of the list, or an allocation failure; and so on from t
+  abbrev IsFirst : List (Result A E) → Answered A E → I × P → Type 0
+  IsFirst [] r t = (at_end × AnswersRefusal from r) ⊎ (r ≡ end)
+  IsFirst (y ∷ l) r t = AnswersRefusal from r ⊎ ((r ≡ result_answer y) × ((q : Answered A E) (u : I × P) → Step t q u → IsFirst l q u))
+
   -- The answers are those of the list, in order, and then an end. An allocation failure may be in the place of any of the list's, and of the end where `at_end` holds.
   abbrev Gives : I × P → List (Result A E) → Type 0
-  Gives s [] = (r : Answered A E) (t : I × P) → Step s r t → (at_end × AnswersRefusal from r) ⊎ (r ≡ end)
-  Gives s (y ∷ l) = (r : Answered A E) (t : I × P) → Step s r t → AnswersRefusal from r ⊎ ((r ≡ result_answer y) × Gives t l)
+  Gives s l = (r : Answered A E) (t : I × P) → Step s r t → IsFirst l r t
 
   same_answer_is_made : (y : Result A E) (r : Answered A E) → r ≡ result_answer y → IsMadeOf (λ x z. z ≡ x) y r
   same_answer_is_made (Ok x) r is = rw is refl
@@ -67,19 +71,6 @@ module _ {I P Z A E : Type 0} (steps : I → Answered A E → I → Type 0) (ask
   unless_refused_where_gives : (l : List (Result A E)) (s : I × P) → Gives s l → GivesUnlessRefused Step from s l
   unless_refused_where_gives [] s a = λ r t w. elim (a r t w) [ inl f ↦ inl f.1 | inr is ↦ inr is ]
   unless_refused_where_gives (y ∷ l) s a = λ r t w. elim (a r t w) [ inl f ↦ inl f | inr k ↦ inr (k.0, unless_refused_where_gives l t k.1) ]
-
-  -- r is the first of the list, or an allocation failure; and so on from t
-  abbrev IsFirst : List (Result A E) → Answered A E → I × P → Type 0
-  IsFirst [] r t = (at_end × AnswersRefusal from r) ⊎ (r ≡ end)
-  IsFirst (y ∷ l) r t = AnswersRefusal from r ⊎ ((r ≡ result_answer y) × Gives t l)
-
-  is_first_where_gives : (l : List (Result A E)) (s : I × P) (r : Answered A E) (t : I × P) → Gives s l → Step s r t → IsFirst l r t
-  is_first_where_gives [] s r t a w = a r t w
-  is_first_where_gives (y ∷ l) s r t a w = a r t w
-
-  gives_where_each_is_first : (l : List (Result A E)) (s : I × P) → ((r : Answered A E) (t : I × P) → Step s r t → IsFirst l r t) → Gives s l
-  gives_where_each_is_first [] s a = a
-  gives_where_each_is_first (y ∷ l) s a = a
 
   first_refused : (o : Option (Result A E)) (l : List (Result A E)) (r : Answered A E) (t : I × P) → AnswersRefusal from r → at_end ⊎ IsSome o → IsFirst (cons_option o l) r t
   first_refused (Some y) l r t is some = inl is
@@ -95,7 +86,7 @@ module _ {I P Z A E : Type 0} (steps : I → Answered A E → I → Type 0) (ask
   Rest End s r t = r ≡ end
 
   is_first_after : (o : Option (Result A E)) (l : List (Result A E)) (s : I × P) (r : Answered A E) (t : I × P) → Rest (outcome_of o) s r t → Gives s l → IsFirst (cons_option o l) r t
-  is_first_after None l s r t w a = is_first_where_gives l s r t a w
+  is_first_after None l s r t w a = a r t w
   is_first_after (Some (Ok y)) l s r t w a = inr (w.0, subst (λ (u : I × P). Gives u l) (sym w.1) a)
   is_first_after (Some (Err e)) l s r t w a = inr (w.0, subst (λ (u : I × P). Gives u l) (sym w.1) a)
 
@@ -124,10 +115,10 @@ module _ {I P Z A E : Type 0} (steps : I → Answered A E → I → Type 0) (ask
     gives_sieved : (l : List (Result A E)) (s : I) (p : P) (z : Z) → At p z → AlwaysGives steps s l → Gives (s, p) (sieved takes z l)
     gives_sieved [] s p z at a = λ r t w. inr (end_of_nil a (passes_of_pass_trace w))
     gives_sieved (Err d ∷ l) s p z at a = λ r t w. let k = answer_is_failure_first_in_list d l a (passes_of_pass_trace w) in inr (k.0, gives_sieved l t.0 t.1 z (subst (λ (q : P). At q z) (sym k.1) at) k.2)
-    gives_sieved (Ok x ∷ l) s p z at a = gives_where_each_is_first _ (s, p) (λ r t w. let d = drawn_at_item l x s a p t.1 r t.0 (passes_of_pass_trace w) in elim (told p d.holds z x d.outcome at d.asked) [
+    gives_sieved (Ok x ∷ l) s p z at a = λ r t w. let d = drawn_at_item l x s a p t.1 r t.0 (passes_of_pass_trace w) in elim (told p d.holds z x d.outcome at d.asked) [
       | inl k ↦ first_refused (takes z x).0 _ r t (k.0, (rw k.1 at d.rest).0, k.2) k.3
       | inr k ↦ is_first_after (takes z x).0 _ (d.left, d.holds) r t (rw k.0 at d.rest) (gives_sieved l d.left d.holds (takes z x).1 k.1 d.given)
-    ])
+    ]
 
     -- where none fails in the place of the end
     pub gives_sieved_until_refused : (at_end → ⊥) → (l : List (Result A E)) (s : I) (p : P) (z : Z) → At p z → AlwaysGives steps s l → GivesUntilRefused (λ x y. y ≡ x) Step from (s, p) (sieved takes z l)
